@@ -1,0 +1,5 @@
+pub mod Tests
+pub mod Order
+pub mod Words
+pub mod Biases
+pub mod Steps
