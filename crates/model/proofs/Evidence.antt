@@ -1,0 +1,198 @@
+-- Kinds 1 to 4: the two databases made of the rows that the kind speaks of have the same extract's rows and different query's rows.
+-- So kind 0 is exactly that the extract determines the query. Assumes nothing.
+use mathlib.Core.Path.{_≡_, refl, sym, ap, _∙_}
+use mathlib.Core.Logic.{_⊎_, inl, inr}
+use mathlib.Core.Bool.{Bool, true, false, not, cond, _&&_}
+use mathlib.Core.List.{[], _∷_, List·Memᴰ·head, List·Memᴰ·not-nil, List·Memᴰ·eq-of-singleton}
+use Prim.Native.Nat.{ℕ, _≤_}
+use native.Mathlib.Omega.{arith}
+use lib.ListN.{length, getD}
+use lib.Dec.{T, T-not}
+use Rattle.model.specs.Lists.{_∈_, Same}
+use Rattle.model.specs.Tables.{Row, OutputRow, Job, Database, WithinBounds, within, uses, partOf}
+use Rattle.model.specs.Rows.{someRow, sameRow}
+use Rattle.model.specs.Verdict.{usesOther, columns, tablesDiffer, witness2, witness3, witness4, kind1, kind2, kind3, kind4, kindOf, extractRows, queryRows, Apart, AtMostOneRow, Evidence, rowDatabase, reducedDatabase, answer, meetsExtract, stored, emptyDatabase, meetsQuery}
+use Rattle.model.proofs.Lists.{T-and, T-or, T-is, not-is, same-is, one-none}
+use Rattle.model.proofs.Rows.{some-has, two-has, is-same-row}
+use Rattle.model.proofs.Verdict.{Alike, witness3-has, witness4-has, kind-any, tables-same, same-uses}
+use Rattle.model.proofs.Combinations.{part-within}
+use Rattle.model.proofs.Scope.{JobFormed, other-used, rows-none, rows-empty, rows-one, rows-cong}
+
+-- ---- a database thinned out: no row in some tables
+abbrev thinned : (ℕ → Bool) → Database → Database
+thinned u d t = cond (u t) (d t) []
+
+module _ (j : Job) (u : ℕ → Bool) (d : Database) where
+  thinned-within : WithinBounds (j .tables) d → WithinBounds (j .tables) (thinned u d)
+  thinned-within w t lt r m = go (u t) m
+    where
+      go : (b : Bool) → r ∈ cond b (d t) [] → T (within (getD (j .tables) t []) r)
+      go true n = w t lt r n
+      go false n = absurd (List·Memᴰ·not-nil n)
+
+  thinned-small : AtMostOneRow j d → AtMostOneRow j (thinned u d)
+  thinned-small s t lt = go (u t)
+    where
+      go : (b : Bool) → length (cond b (d t) []) ≤ 1
+      go true = s t lt
+      go false = omega arith
+
+-- ---- the databases of one row
+module _ (j : Job) (formed : JobFormed j) where
+  part-rows : Row → Database
+  part-rows r t = partOf (j .tables) r t ∷ []
+
+  none-within : WithinBounds (j .tables) emptyDatabase
+  none-within t lt r m = absurd (List·Memᴰ·not-nil m)
+
+  none-small : AtMostOneRow j emptyDatabase
+  none-small t lt = omega arith
+
+  no-query : queryRows j emptyDatabase ≡ []
+  unfolding queryRows
+  no-query = rows-empty (j .tables) (j .query) emptyDatabase (formed .query) (λ t. refl)
+
+  no-extract : extractRows j emptyDatabase ≡ []
+  unfolding extractRows
+  no-extract = rows-empty (j .tables) (j .extract) emptyDatabase (formed .extract) (λ t. refl)
+
+  module _ (r : Row) (w : T (within (columns j) r)) where
+    parts-within : WithinBounds (j .tables) (part-rows r)
+    unfolding part-rows
+    parts-within t lt s m = rw (List·Memᴰ·eq-of-singleton m) (part-within (j .tables) r w t lt)
+
+    parts-small : AtMostOneRow j (part-rows r)
+    unfolding part-rows
+    parts-small t lt = omega arith
+
+    one-within : WithinBounds (j .tables) (rowDatabase j r)
+    unfolding rowDatabase part-rows
+    one-within = thinned-within j (uses (j .query)) (part-rows r) parts-within
+
+    one-small : AtMostOneRow j (rowDatabase j r)
+    unfolding rowDatabase part-rows
+    one-small = thinned-small j (uses (j .query)) (part-rows r) parts-small
+
+    less-within : WithinBounds (j .tables) (reducedDatabase j r)
+    unfolding reducedDatabase
+    less-within = thinned-within j (λ t. usesOther (j .query) (j .extract) && uses (j .extract) t) (rowDatabase j r) one-within
+
+    less-small : AtMostOneRow j (reducedDatabase j r)
+    unfolding reducedDatabase
+    less-small = thinned-small j (λ t. usesOther (j .query) (j .extract) && uses (j .extract) t) (rowDatabase j r) one-small
+
+    one-used : (t : ℕ) → T (uses (j .query) t) → rowDatabase j r t ≡ partOf (j .tables) r t ∷ []
+    unfolding rowDatabase
+    one-used t u = rw (T-is (uses (j .query) t) u)
+
+    one-unused : (t : ℕ) → T (not (uses (j .query) t)) → rowDatabase j r t ≡ []
+    unfolding rowDatabase
+    one-unused t n = rw (not-is (uses (j .query) t) n)
+
+    query-one : {b : Bool} → meetsQuery j r ≡ b → queryRows j (rowDatabase j r) ≡ cond b (answer j r ∷ []) []
+    unfolding queryRows
+    query-one e = rw (← e) (rows-one (j .tables) (j .query) (formed .query) r w (rowDatabase j r) (λ t lt u. one-used t u))
+
+    -- where the used tables are the same
+    extract-one : T (not (tablesDiffer j)) → {b : Bool} → meetsExtract j r ≡ b → extractRows j (rowDatabase j r) ≡ cond b (stored j r ∷ []) []
+    unfolding extractRows
+    extract-one n e = rw (← e) (rows-one (j .tables) (j .extract) (formed .extract) r w (rowDatabase j r) (λ t lt u. one-used t (rw (same-uses j n t) at u)))
+
+    -- ---- kind 1
+    module _ (differ : T (tablesDiffer j)) (q : T (meetsQuery j r)) where
+      -- the query uses a table that the extract doesn't: the second database has no row there
+      query-more : T (usesOther (j .query) (j .extract)) → Apart j (rowDatabase j r) (reducedDatabase j r)
+      unfolding extractRows queryRows reducedDatabase
+      query-more o =
+          let (t, u, n) = other-used (j .query) (j .extract) o in
+          record {
+            first-within = one-within;
+            second-within = less-within;
+            same-extract = same-is (rows-cong (j .tables) (j .extract) (rowDatabase j r) (reducedDatabase j r) (λ s ls v. rw (T-is (usesOther (j .query) (j .extract)) o, T-is (uses (j .extract) s) v)));
+            other-query = one-none (query-one (T-is (meetsQuery j r) q)) (rows-none (j .tables) (j .query) (reducedDatabase j r) (formed .query) t u (rw (T-is (usesOther (j .query) (j .extract)) o, not-is (uses (j .extract) t) n)));
+          }
+
+      -- only the extract uses more: neither database has a row there
+      extract-more : T (not (usesOther (j .query) (j .extract))) → T (usesOther (j .extract) (j .query)) → Apart j (rowDatabase j r) (reducedDatabase j r)
+      unfolding extractRows queryRows reducedDatabase
+      extract-more none-more o =
+          let (t, u, n) = other-used (j .extract) (j .query) o in
+          let bare : (s : ℕ) → reducedDatabase j r s ≡ [] = λ s. rw (not-is (usesOther (j .query) (j .extract)) none-more) in
+          record {
+            first-within = one-within;
+            second-within = less-within;
+            same-extract = same-is (rows-none (j .tables) (j .extract) (rowDatabase j r) (formed .extract) t u (one-unused t n) ∙ sym (rows-empty (j .tables) (j .extract) (reducedDatabase j r) (formed .extract) bare));
+            other-query = one-none (query-one (T-is (meetsQuery j r) q)) (rows-empty (j .tables) (j .query) (reducedDatabase j r) (formed .query) bare);
+          }
+
+      apart-1 : Evidence j (rowDatabase j r) (reducedDatabase j r)
+      unfolding tablesDiffer
+      apart-1 = record { apart = go (usesOther (j .query) (j .extract)) refl (T-or (usesOther (j .extract) (j .query)) (usesOther (j .query) (j .extract)) differ); first-small = one-small; second-small = less-small }
+        where
+          go : (b : Bool) → usesOther (j .query) (j .extract) ≡ b → T (usesOther (j .extract) (j .query)) ⊎ T (usesOther (j .query) (j .extract)) → Apart j (rowDatabase j r) (reducedDatabase j r)
+          go true e x = query-more (rw e tt)
+          go false e (inl x) = extract-more (rw e tt) x
+          go false e (inr x) = query-more x
+
+    -- ---- kind 2
+    apart-2 : T (not (tablesDiffer j)) → T (witness2 j r) → Evidence j (rowDatabase j r) emptyDatabase
+    unfolding witness2
+    apart-2 n x =
+        let (q, e) = T-and (meetsQuery j r) (not (meetsExtract j r)) x in
+        record {
+          apart = record {
+            first-within = one-within;
+            second-within = none-within;
+            same-extract = same-is (extract-one n (not-is (meetsExtract j r) e) ∙ sym no-extract);
+            other-query = one-none (query-one (T-is (meetsQuery j r) q)) no-query;
+          };
+          first-small = one-small;
+          second-small = none-small;
+        }
+
+  -- ---- kinds 3 and 4: two rows that meet the extract's condition and agree in the stored columns
+  module _ (same-tables : T (not (tablesDiffer j))) (r s : Row) (v : T (within (columns j) r)) (w : T (within (columns j) s)) where
+    two : Alike j r s → ¬ Same (queryRows j (rowDatabase j r)) (queryRows j (rowDatabase j s)) → Evidence j (rowDatabase j r) (rowDatabase j s)
+    two t n = record {
+      apart = record {
+        first-within = one-within r v;
+        second-within = one-within s w;
+        same-extract = same-is (extract-one r v same-tables (T-is (meetsExtract j r) (t .first-extract)) ∙ ap (λ (x : OutputRow). x ∷ []) (t .agreed) ∙ sym (extract-one s w same-tables (T-is (meetsExtract j s) (t .second-extract))));
+        other-query = n;
+      };
+      first-small = one-small r v;
+      second-small = one-small s w;
+    }
+
+    apart-3 : Alike j r s → T (meetsQuery j r) → T (not (meetsQuery j s)) → Evidence j (rowDatabase j r) (rowDatabase j s)
+    apart-3 t q n = two t (one-none (query-one r v (T-is (meetsQuery j r) q)) (query-one s w (not-is (meetsQuery j s) n)))
+
+    apart-4 : Alike j r s → T (meetsQuery j r) → T (meetsQuery j s) → T (not (sameRow (answer j r) (answer j s))) → Evidence j (rowDatabase j r) (rowDatabase j s)
+    apart-4 t qr qs n = two t (λ m. T-not (sameRow (answer j r) (answer j s)) n
+        (is-same-row (List·Memᴰ·eq-of-singleton (rw (query-one s w (T-is (meetsQuery j s) qs)) at ((m (answer j r)) .0 (rw (query-one r v (T-is (meetsQuery j r) qr)) (List·Memᴰ·head refl)))))))
+
+-- ---- the databases, by kind
+module _ (j : Job) (formed : JobFormed j) where
+  pub evidence-1 : T (kind1 j) → (r : Row) → T (within (columns j) r) → T (meetsQuery j r) → Evidence j (rowDatabase j r) (reducedDatabase j r)
+  unfolding kind1
+  evidence-1 k r w q = apart-1 j formed r w ((T-and (tablesDiffer j) (someRow (columns j) (meetsQuery j)) k) .0) q
+
+  module _ (not1 : T (not (kind1 j))) where
+    pub evidence-2 : (r : Row) → T (within (columns j) r) → T (witness2 j r) → Evidence j (rowDatabase j r) emptyDatabase
+    unfolding witness2
+    evidence-2 r w x = apart-2 j formed r w (tables-same j not1 r w ((T-and (meetsQuery j r) (not (meetsExtract j r)) x) .0)) x
+
+    pub evidence-3 : (r s : Row) → T (within (columns j) r) → T (within (columns j) s) → T (witness3 j r s) → Evidence j (rowDatabase j r) (rowDatabase j s)
+    evidence-3 r s v w x = let (t, q, n) = witness3-has j r s x in apart-3 j formed (tables-same j not1 r v q) r s v w t q n
+
+    pub evidence-4 : (r s : Row) → T (within (columns j) r) → T (within (columns j) s) → T (witness4 j r s) → Evidence j (rowDatabase j r) (rowDatabase j s)
+    evidence-4 r s v w x = let (t, q, p, n) = witness4-has j r s x in apart-4 j formed (tables-same j not1 r v q) r s v w t q p n
+
+  -- some two, where the kind isn't 0
+  pub some-evidence : ¬ (kindOf j ≡ 0) → (d : Database) × (f : Database) × Evidence j d f
+  unfolding kind1 kind2 kind3 kind4
+  some-evidence = kind-any j
+      (λ k. let (r, w, q) = some-has (columns j) (meetsQuery j) ((T-and (tablesDiffer j) (someRow (columns j) (meetsQuery j)) k) .1) in (rowDatabase j r, reducedDatabase j r, evidence-1 k r w q))
+      (λ n k. let (r, w, x) = some-has (columns j) (witness2 j) k in (rowDatabase j r, emptyDatabase, evidence-2 n r w x))
+      (λ n k. let (r, s, v, w, x) = two-has (columns j) (witness3 j) k in (rowDatabase j r, rowDatabase j s, evidence-3 n r s v w x))
+      (λ n k. let (r, s, v, w, x) = two-has (columns j) (witness4 j) k in (rowDatabase j r, rowDatabase j s, evidence-4 n r s v w x))

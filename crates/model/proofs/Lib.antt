@@ -1,0 +1,12 @@
+pub mod Samples
+pub mod Lists
+pub mod Rows
+pub mod Combinations
+pub mod Scope
+pub mod Verdict
+pub mod Computable
+pub mod Running
+pub mod Evidence
+pub mod Listing
+pub mod Least
+pub mod Theorems

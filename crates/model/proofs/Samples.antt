@@ -1,0 +1,210 @@
+-- Samples over tiny bounds, which the checker computes from the definitions: what a wrong definition would say otherwise.
+-- Assumes nothing.
+use mathlib.Core.Path.{_≡_, refl}
+use mathlib.Core.Bool.{Bool, true, false, not, _&&_, xor}
+use mathlib.Core.List.{List, [], _∷_, map}
+use mathlib.Core.Option.{none, some}
+use Prim.Native.Nat.{ℕ, zero, suc}
+use lib.IntN.{ℤ, pos, negsuc}
+use lib.ListN.{replicate}
+use lib.Dec.{T, eqb}
+use Rattle.words.specs.Compare.{Op, less, equal, more}
+use Rattle.model.specs.Lists.{allOf}
+use Rattle.model.specs.Tables.{rowsOf, uses, Row, outputsOf, Table, meets, conditionHolds, Database, clauseHolds, Job, column, Bounds, number, Condition, Expression, Comparison}
+use Rattle.model.specs.WellFormed.{limited, expressionFormed, conditionLimited, structured}
+use Rattle.model.specs.Rows.{twoRows, valuesOf, someRow}
+use Rattle.model.specs.Least.{leastRow, isLeast}
+use Rattle.model.specs.Verdict.{reducedDatabase, witness2, rowDatabase, kindOf, kind4, tablesDiffer, unfixing, kind2, fixed, alikeInExtract, witness3, kind1, usesOther, listingOf, extractRows, kind3, witness4, queryRows}
+use Rattle.model.specs.Running.{standIn, runBy, fillOf, standsIn, runOf}
+
+-- ---- two tables: columns 0 and 1, and column 2
+
+abbrev bits : Bounds
+bits = record { lo = pos 0; hi = pos 1 }
+
+abbrev two : List Table
+two = (bits ∷ bits ∷ []) ∷ (bits ∷ []) ∷ []
+
+abbrev against : Op → ℕ → ℕ → Comparison
+against o c d = record { op = o; left = c; right = column d }
+
+abbrev above : ℕ → ℤ → Comparison
+above c n = record { op = more; left = c; right = number n }
+
+abbrev is : ℕ → ℤ → Comparison
+is c n = record { op = equal; left = c; right = number n }
+
+abbrev all : Condition
+all = [] ∷ []
+
+abbrev over : List ℕ → List ℕ → Condition → Expression
+over ts cs k = record { used = ts; outputs = cs; condition = k }
+
+-- column 0 of table 0
+abbrev plain : Expression
+plain = over (0 ∷ []) (0 ∷ []) all
+
+abbrev job : List Table → Expression → Expression → Job
+job ts e q = record { tables = ts; extract = e; query = q }
+
+-- ---- well formed, and one rule broken at a time
+
+record Sample : Type 0 where
+  it : Job
+  structure : Bool
+  limits : Bool
+
+abbrev sample : Bool → Bool → Job → Sample
+sample s l j = record { it = j; structure = s; limits = l }
+
+-- an expression, as the extract and as the query
+abbrev both : Bool → Bool → Expression → List Sample
+both s l e = sample s l (job two e plain) ∷ sample s l (job two plain e) ∷ []
+
+-- declared tables
+abbrev tables : Bool → Bool → List Table → List Sample
+tables s l ts = sample s l (job ts plain plain) ∷ []
+
+samples : List (List Sample)
+samples =
+    both true true plain
+    ∷ both true true (over (0 ∷ 1 ∷ []) (2 ∷ 0 ∷ []) [])
+    ∷ both true true (over (1 ∷ []) (2 ∷ []) ((against less 2 2 ∷ above 2 (pos 1000000) ∷ above 2 (negsuc 999999) ∷ []) ∷ [] ∷ []))
+    -- no used table, one that isn't declared, two that don't ascend
+    ∷ both false true (over [] (0 ∷ []) [])
+    ∷ both false true (over (0 ∷ 2 ∷ []) (0 ∷ []) [])
+    ∷ both false true (over (1 ∷ 0 ∷ []) (0 ∷ []) [])
+    ∷ both false true (over (0 ∷ 0 ∷ []) (0 ∷ []) [])
+    -- no output, one twice, one that isn't declared, one of a table that isn't used
+    ∷ both false true (over (0 ∷ []) [] [])
+    ∷ both false true (over (0 ∷ []) (1 ∷ 0 ∷ 1 ∷ []) [])
+    ∷ both false true (over (0 ∷ 1 ∷ []) (3 ∷ []) [])
+    ∷ both false true (over (0 ∷ []) (2 ∷ []) [])
+    -- the same of either side of a comparison
+    ∷ both false true (over (0 ∷ 1 ∷ []) (0 ∷ []) ((against less 3 0 ∷ []) ∷ []))
+    ∷ both false true (over (0 ∷ []) (0 ∷ []) ((against less 2 0 ∷ []) ∷ []))
+    ∷ both false true (over (0 ∷ []) (0 ∷ []) ([] ∷ (against less 0 1 ∷ against less 0 2 ∷ []) ∷ []))
+    -- four clauses of six comparisons; five clauses, seven comparisons, a number out of range
+    ∷ both true true (over (0 ∷ []) (0 ∷ []) (replicate 4 (replicate 6 (against less 0 1))))
+    ∷ both true false (over (0 ∷ []) (0 ∷ []) (replicate 5 []))
+    ∷ both true false (over (0 ∷ []) (0 ∷ []) (replicate 7 (against less 0 1) ∷ []))
+    ∷ both true false (over (0 ∷ []) (0 ∷ []) ((above 0 (pos 1000001) ∷ []) ∷ []))
+    ∷ both true false (over (0 ∷ []) (0 ∷ []) ((above 0 (negsuc 1000000) ∷ []) ∷ []))
+    -- no table, a table without columns, lo above hi
+    ∷ tables false false []
+    ∷ tables false true ((bits ∷ []) ∷ [] ∷ [])
+    ∷ tables false true ((bits ∷ record { lo = pos 1; hi = pos 0 } ∷ []) ∷ [])
+    -- four tables of four columns at the limits; five tables, 17 columns, bounds out of range
+    ∷ tables true true (replicate 4 (replicate 4 (record { lo = negsuc 999999; hi = pos 1000000 })))
+    ∷ tables true false (replicate 5 (bits ∷ []))
+    ∷ tables true false (replicate 17 bits ∷ [])
+    ∷ tables true false ((record { lo = negsuc 1000000; hi = pos 0 } ∷ []) ∷ [])
+    ∷ tables true false ((record { lo = pos 0; hi = pos 1000001 } ∷ []) ∷ [])
+    ∷ []
+
+right : Sample → Bool
+right s = not (xor (structured (s .it)) (s .structure)) && not (xor (limited (s .it)) (s .limits))
+
+well-formed-samples : T (allOf (allOf right) samples)
+unfolding samples right xor structured limited expressionFormed conditionLimited uses
+well-formed-samples = tt
+
+-- ---- kinds, with the listing of each column
+
+-- column 0 where column 1 equals column 2: two hidden columns that change together
+abbrev tied : Condition → Expression
+tied k = over (0 ∷ 1 ∷ []) (0 ∷ []) k
+
+-- column 1 is known where column 0 is 1, and free where it is 0
+abbrev partly : Condition
+partly = (is 0 (pos 1) ∷ is 1 (pos 1) ∷ []) ∷ (is 0 (pos 0) ∷ []) ∷ []
+
+abbrev bounded : ℤ → ℤ → Bounds
+bounded a b = record { lo = a; hi = b }
+
+record Verdict : Type 0 where
+  of : Job
+  kind : ℕ
+  listing : List ℕ
+
+abbrev verdict : ℕ → List ℕ → Job → Verdict
+verdict k l j = record { of = j; kind = k; listing = l }
+
+verdicts : List Verdict
+verdicts =
+    verdict 0 (1 ∷ 3 ∷ 0 ∷ []) (job two plain plain)
+    -- the query uses more, the extract uses more; never met
+    ∷ verdict 1 (1 ∷ 3 ∷ 0 ∷ []) (job two plain (over (0 ∷ 1 ∷ []) (0 ∷ []) all))
+    ∷ verdict 1 (1 ∷ 3 ∷ 3 ∷ []) (job two (over (0 ∷ 1 ∷ []) (0 ∷ []) all) plain)
+    ∷ verdict 0 (1 ∷ 3 ∷ 0 ∷ []) (job two plain (over (0 ∷ 1 ∷ []) (0 ∷ []) []))
+    -- the query is wider, and narrower; at the highest value of bounds across zero
+    ∷ verdict 2 (1 ∷ 3 ∷ 0 ∷ []) (job two (over (0 ∷ []) (0 ∷ []) ((above 0 (pos 0) ∷ []) ∷ [])) plain)
+    ∷ verdict 0 (1 ∷ 3 ∷ 0 ∷ []) (job two plain (over (0 ∷ []) (0 ∷ []) ((above 0 (pos 0) ∷ []) ∷ [])))
+    ∷ verdict 2 (1 ∷ []) (job ((bounded (negsuc 0) (pos 1) ∷ []) ∷ []) (over (0 ∷ []) (0 ∷ []) ((is 0 (pos 0) ∷ []) ∷ [])) (over (0 ∷ []) (0 ∷ []) ((above 0 (pos 0) ∷ []) ∷ [])))
+    -- two hidden columns that only change together (case 15)
+    ∷ verdict 3 (1 ∷ 3 ∷ 3 ∷ []) (job two (tied ((against equal 1 2 ∷ []) ∷ [])) (tied ((is 1 (pos 0) ∷ against equal 1 2 ∷ []) ∷ [])))
+    -- a hidden output: free, with one value only, fixed by the condition, known where the query asks (case 9)
+    ∷ verdict 4 (1 ∷ 3 ∷ 0 ∷ []) (job two plain (over (0 ∷ []) (1 ∷ []) all))
+    ∷ verdict 0 (1 ∷ 2 ∷ []) (job ((bits ∷ bounded (pos 1) (pos 1) ∷ []) ∷ []) plain (over (0 ∷ []) (1 ∷ []) all))
+    ∷ verdict 0 (1 ∷ 2 ∷ 0 ∷ []) (job two (over (0 ∷ []) (0 ∷ []) ((against less 0 1 ∷ []) ∷ [])) (over (0 ∷ []) (1 ∷ []) ((against less 0 1 ∷ []) ∷ [])))
+    ∷ verdict 0 (1 ∷ 3 ∷ 0 ∷ []) (job two (over (0 ∷ []) (0 ∷ []) partly) (over (0 ∷ []) (1 ∷ []) ((is 0 (pos 1) ∷ is 1 (pos 1) ∷ []) ∷ [])))
+    ∷ []
+
+-- each column's listing is the one that stands there
+listed : Job → ℕ → List ℕ → Bool
+unfolding listingOf fixed unfixing alikeInExtract uses twoRows someRow valuesOf meets outputsOf conditionHolds clauseHolds
+listed j c [] = true
+listed j c (l ∷ ls) = eqb (listingOf j c) l && listed j (suc c) ls
+
+judged : Verdict → Bool
+unfolding kindOf kind1 kind2 kind3 kind4 tablesDiffer usesOther witness2 witness3 witness4 listed
+judged v = eqb (kindOf (v .of)) (v .kind) && listed (v .of) 0 (v .listing)
+
+verdict-samples : T (allOf judged verdicts)
+unfolding verdicts judged
+verdict-samples = tt
+
+-- ---- the two databases of kind 1, where the extract uses a further table: no extract row on either, and a query row on the first
+
+pair : Job
+pair = job two (over (0 ∷ 1 ∷ []) (0 ∷ []) all) plain
+
+zeros : Row
+zeros = pos 0 ∷ pos 0 ∷ pos 0 ∷ []
+
+extract-rows : map (extractRows pair) (rowDatabase pair zeros ∷ reducedDatabase pair zeros ∷ []) ≡ [] ∷ [] ∷ []
+unfolding pair zeros extractRows rowDatabase reducedDatabase usesOther uses rowsOf meets outputsOf conditionHolds clauseHolds
+extract-rows = refl
+
+query-rows : map (queryRows pair) (rowDatabase pair zeros ∷ reducedDatabase pair zeros ∷ []) ≡ ((pos 0 ∷ []) ∷ []) ∷ [] ∷ []
+unfolding pair zeros queryRows rowDatabase reducedDatabase usesOther uses rowsOf meets outputsOf conditionHolds clauseHolds
+query-rows = refl
+
+-- ---- least rows (case 14)
+
+least : leastRow (bits ∷ bits ∷ bits ∷ []) (against less 0 1 ∷ []) ≡ some (pos 0 ∷ pos 1 ∷ pos 0 ∷ [])
+unfolding leastRow isLeast clauseHolds someRow valuesOf
+least = refl
+
+no-least : leastRow (bits ∷ bits ∷ bits ∷ []) (against less 0 1 ∷ against less 1 2 ∷ []) ≡ none
+unfolding leastRow isLeast clauseHolds someRow valuesOf
+no-least = refl
+
+-- ---- the order of rows
+
+-- the lowest table changes slowest, and repeats are dropped where they appear again
+ranges : Database
+ranges zero = (pos 1 ∷ pos 0 ∷ []) ∷ (pos 0 ∷ pos 0 ∷ []) ∷ (pos 1 ∷ pos 0 ∷ []) ∷ []
+ranges (suc t) = (pos 1 ∷ []) ∷ (pos 0 ∷ []) ∷ []
+
+fill-order : fillOf (job two (over (0 ∷ 1 ∷ []) (2 ∷ 0 ∷ []) all) plain) ranges
+    ≡ (pos 1 ∷ pos 1 ∷ []) ∷ (pos 0 ∷ pos 1 ∷ []) ∷ (pos 1 ∷ pos 0 ∷ []) ∷ (pos 0 ∷ pos 0 ∷ []) ∷ []
+unfolding fillOf extractRows rowsOf uses meets outputsOf clauseHolds conditionHolds ranges
+fill-order = refl
+
+-- stored rows in their order; one that gives nothing, and one that gives a row again, are passed over
+run-order : runOf (job two (over (0 ∷ []) (0 ∷ 1 ∷ []) all) (over (0 ∷ []) (0 ∷ []) ((above 1 (pos 0) ∷ []) ∷ [])))
+    ((pos 1 ∷ pos 0 ∷ []) ∷ (pos 1 ∷ pos 1 ∷ []) ∷ (pos 0 ∷ pos 1 ∷ []) ∷ (pos 1 ∷ pos 1 ∷ []) ∷ [])
+    ≡ (pos 1 ∷ []) ∷ (pos 0 ∷ []) ∷ []
+unfolding runOf runBy standIn standsIn valuesOf uses meets outputsOf clauseHolds conditionHolds
+run-order = refl

@@ -1,0 +1,147 @@
+-- The theorems about document 01's meanings, for every well-formed job: of the two halves of well-formed they need the structure alone.
+-- Assumes nothing.
+use mathlib.Core.Path.{_≡_, refl}
+use mathlib.Core.Logic.{_↔_}
+use mathlib.Core.Bool.{Bool, true, false, not, cond}
+use mathlib.Core.List.{List, [], _∷_}
+use mathlib.Core.Option.{Option, none, some}
+use Prim.Native.Nat.{ℕ}
+use native.Mathlib.Decide.{ℕ-discrete}
+use lib.Dec.{T, eqb}
+use Rattle.model.specs.Lists.{_∈_, Same, Distinct, anyOf, allOf, ifAny}
+use Rattle.model.specs.Tables.{Bounds, Table, Row, OutputRow, Comparison, Expression, Job, clauseHolds, meets, outputsOf, uses, tableOf, within, Database, WithinBounds, rowsOf, columnsOf, Condition, value, conditionHolds}
+use Rattle.model.specs.WellFormed.{tableFormed, expressionFormed, structured, usable}
+use Rattle.model.specs.Rows.{someRow, twoRows}
+use Rattle.model.specs.Least.{atMostRow, leastRow}
+use Rattle.model.specs.Verdict.{columns, witness2, witness3, witness4, kindOf, listingOf, extractRows, queryRows, Determined, Apart, Evidence, rowDatabase, reducedDatabase, answer, meetsExtract, stored, emptyDatabase, meetsQuery}
+use Rattle.model.specs.Running.{fillOf, RangesHold, runBy, runOf, StandIns, standIn}
+use Rattle.model.proofs.Lists.{same-is, same-sym, same-trans}
+use Rattle.model.proofs.Rows.{some-has, has-some, two-has, has-two}
+use Rattle.model.proofs.Least as least
+use Rattle.model.proofs.Verdict.{kind-1, kind-more, never-met}
+use Rattle.model.proofs.Running as running
+use Rattle.model.proofs.Combinations.{Combines}
+use Rattle.model.proofs.Scope.{JobFormed, is-formed, job-formed, same-meets, same-outputs, rows-are}
+use Rattle.model.proofs.Evidence as found
+use Rattle.model.proofs.Listing.{listing-2}
+
+-- ---- what the searches over all rows, conditions and an expression's rows mean
+
+pub some-row : (bs : List Bounds) (p : Row → Bool) → T (someRow bs p) ↔ ((r : Row) × T (within bs r) × T (p r))
+some-row bs p = (some-has bs p, λ (r, w, t). has-some bs p r w t)
+
+pub two-rows : (bs : List Bounds) (p : Row → Row → Bool) → T (twoRows bs p) ↔ ((r : Row) × (s : Row) × T (within bs r) × T (within bs s) × T (p r s))
+two-rows bs p = (two-has bs p, λ (r, s, v, w, t). has-two bs p r s v w t)
+
+-- no clause never holds, and an empty clause always does
+pub no-clause : (r : Row) → conditionHolds r [] ≡ false
+unfolding conditionHolds
+no-clause r = refl
+
+pub empty-clause : (r : Row) (k : Condition) → conditionHolds r ([] ∷ k) ≡ true
+unfolding conditionHolds clauseHolds
+empty-clause r k = refl
+
+module _ (ts : List Table) (e : Expression) (formed : T (expressionFormed ts e)) where
+  -- columns of tables that the expression doesn't use play no part in it
+  pub other-columns : (r s : Row) → ((c : ℕ) → T (usable ts e c) → value r c ≡ value s c) → (meets e r ≡ meets e s) × (outputsOf e r ≡ outputsOf e s)
+  other-columns r s alike = let f = is-formed ts e formed in (same-meets ts e r s alike f, same-outputs ts e r s alike f)
+
+  -- its rows are the outputs of every row within bounds that meets the condition and whose part in each used table is a row of that table
+  pub expression-rows : (d : Database) → T (allOf tableFormed ts) → WithinBounds ts d → (o : OutputRow)
+      → (o ∈ rowsOf ts e d) ↔ ((r : Row) × T (within (columnsOf ts) r) × Combines (uses e) ts d r × T (meets e r) × (outputsOf e r ≡ o))
+  expression-rows d f w o = rows-are ts e d f (is-formed ts e formed) w o
+
+module _ (j : Job) (formed : T (structured j)) where
+  job : JobFormed j
+  job = job-formed j formed
+
+  -- ---- 1. The kind is 0 exactly where the extract determines the query, over all databases
+
+  determines : kindOf j ≡ 0 → Determined j
+  determines k d f v w s =
+      let e = extractRows j d in
+      same-trans (same-sym (running.run-same j job k d v e (same-is refl))) (running.run-same j job k f w e s)
+
+  pub computable-is : kindOf j ≡ 0 ↔ Determined j
+  computable-is = (determines, λ all. go all (ℕ-discrete (kindOf j) 0))
+    where
+      go : Determined j → Dec (kindOf j ≡ 0) → kindOf j ≡ 0
+      go all (yes e) = e
+      go all (no n) =
+          let (d, f, e) = found.some-evidence j job n in
+          let a = e .apart in
+          absurd (a .other-query (all d f (a .first-within) (a .second-within) (a .same-extract)))
+
+  -- and not 0 exactly where two databases show that it doesn't
+  pub not-computable-is : ¬ (kindOf j ≡ 0) ↔ ((d : Database) × (f : Database) × Apart j d f)
+  not-computable-is = (
+    λ n. let (d, f, e) = found.some-evidence j job n in (d, f, e .apart),
+    λ (d, f, a) k. a .other-query (determines k d f (a .first-within) (a .second-within) (a .same-extract)),
+  )
+
+  -- ---- 2. Where the kind is 1 to 4, two databases with at most one row per table show it
+
+  pub evidence : ¬ (kindOf j ≡ 0) → (d : Database) × (f : Database) × Evidence j d f
+  evidence n = found.some-evidence j job n
+
+  -- made of any row, or any two, that the kind speaks of
+  pub evidence-1 : kindOf j ≡ 1 → (r : Row) → T (within (columns j) r) → T (meetsQuery j r) → Evidence j (rowDatabase j r) (reducedDatabase j r)
+  evidence-1 k r w q = found.evidence-1 j job (kind-1 j k) r w q
+
+  pub evidence-2 : kindOf j ≡ 2 → (r : Row) → T (within (columns j) r) → T (witness2 j r) → Evidence j (rowDatabase j r) emptyDatabase
+  evidence-2 k r w x = found.evidence-2 j job (kind-more j k) r w x
+
+  pub evidence-3 : kindOf j ≡ 3 → (r s : Row) → T (within (columns j) r) → T (within (columns j) s) → T (witness3 j r s) → Evidence j (rowDatabase j r) (rowDatabase j s)
+  evidence-3 k r s v w x = found.evidence-3 j job (kind-more j k) r s v w x
+
+  pub evidence-4 : kindOf j ≡ 4 → (r s : Row) → T (within (columns j) r) → T (within (columns j) s) → T (witness4 j r s) → Evidence j (rowDatabase j r) (rowDatabase j s)
+  evidence-4 k r s v w x = found.evidence-4 j job (kind-more j k) r s v w x
+
+  -- ---- 3. Where the kind is 0, running on the extract's rows lists the query's rows, each once
+
+  pub run-lists : kindOf j ≡ 0 → (d : Database) → WithinBounds (j .tables) d → (ss : List OutputRow) → Same ss (extractRows j d) → Same (runOf j ss) (queryRows j d) × Distinct (runOf j ss)
+  run-lists k d w ss s = (running.run-same j job k d w ss s, running.run-distinct j ss)
+
+  -- ---- 4. Filling lists the extract's rows, each once
+
+  pub fill-lists : (d ranges : Database) → RangesHold j ranges d → Same (fillOf j ranges) (extractRows j d) × Distinct (fillOf j ranges)
+  fill-lists d ranges h = (running.fill-same j d ranges h, running.fill-distinct j ranges)
+
+  -- ---- 5. Where the kind is 0, a run's rows don't depend on which rows stand in for the stored ones
+
+  pub stand-ins-alike : kindOf j ≡ 0 → (choice : OutputRow → Option Row) → StandIns j choice → (ss : List OutputRow) → runBy j choice ss ≡ runOf j ss
+  stand-ins-alike k choice c ss = running.run-by-any j job k choice c ss
+
+  -- any row that has the stored values and meets the extract's condition decides whether the stored row gives a query row, and which
+  pub one-row-decides : kindOf j ≡ 0 → (s : OutputRow) (r : Row) → T (within (columns j) r) → stored j r ≡ s → T (meetsExtract j r) → ifAny (standIn j s) (answer j) ≡ cond (meetsQuery j r) (answer j r ∷ []) []
+  one-row-decides k s r w a e = running.one-decides j job k (standIn j) (running.first-stand-in j) s r w a e
+
+-- where no row meets the query's condition the kind is 0, whatever else holds
+pub query-never-met : (j : Job) → T (not (someRow (columns j) (meetsQuery j))) → kindOf j ≡ 0
+query-never-met = never-met
+
+-- ---- 6. The listing's 2: its table is used, it isn't stored, and any two rows that meet the extract's condition and agree in the stored columns
+-- agree in it
+
+pub listing-fixed : (j : Job) (c : ℕ) → listingOf j c ≡ 2 ↔ T (uses (j .extract) (tableOf (j .tables) c)) × T (not (anyOf (eqb c) (j .extract .outputs)))
+    × ((r s : Row) → T (within (columns j) r) → T (within (columns j) s) → T (meetsExtract j r) → T (meetsExtract j s) → stored j r ≡ stored j s → value r c ≡ value s c)
+listing-fixed = listing-2
+
+-- ---- 7. The least row of a list of comparisons
+
+module _ (bs : List Bounds) (ks : List Comparison) where
+  -- none exactly where no row within bounds meets the list
+  pub least-none : leastRow bs ks ≡ none ↔ ((r : Row) → T (within bs r) → T (clauseHolds r ks) → ⊥)
+  least-none = (λ e r w h. least.least-found bs ks r (w, h) e, λ n. go (leastRow bs ks) refl n)
+    where
+      go : (o : Option Row) → leastRow bs ks ≡ o → ((r : Row) → T (within bs r) → T (clauseHolds r ks) → ⊥) → o ≡ none
+      go none e n = refl
+      go (some r) e n = let ((w, h), low) = least.least-is bs ks r e in absurd (n r w h)
+
+  -- else the row that meets it and is in every column at most every row that meets it
+  pub least-some : (r : Row) → leastRow bs ks ≡ some r ↔ T (within bs r) × T (clauseHolds r ks) × ((s : Row) → T (within bs s) → T (clauseHolds s ks) → T (atMostRow r s))
+  least-some r = (
+    λ e. let ((w, h), low) = least.least-is bs ks r e in (w, h, λ s v i. low s (v, i)),
+    λ (w, h, low). least.is-least bs ks r (w, h) (λ s (v, i). low s v i),
+  )

@@ -1,0 +1,7 @@
+pub mod Lists
+pub mod Tables
+pub mod WellFormed
+pub mod Rows
+pub mod Least
+pub mod Verdict
+pub mod Running
