@@ -40,9 +40,15 @@ all = [] ∷ []
 abbrev over : List ℕ → List ℕ → Condition → Expression
 over ts cs k = record { used = ts; outputs = cs; condition = k }
 
--- column 0 of table 0
+abbrev table0 : List ℕ → Condition → Expression
+table0 cs k = over (0 ∷ []) cs k
+
 abbrev plain : Expression
-plain = over (0 ∷ []) (0 ∷ []) all
+plain = table0 (0 ∷ []) all
+
+-- column 0 of both tables' product
+abbrev product : Condition → Expression
+product k = over (0 ∷ 1 ∷ []) (0 ∷ []) k
 
 abbrev job : List Table → Expression → Expression → Job
 job ts e q = record { tables = ts; extract = e; query = q }
@@ -76,20 +82,20 @@ samples =
     ∷ both false true (over (1 ∷ 0 ∷ []) (0 ∷ []) [])
     ∷ both false true (over (0 ∷ 0 ∷ []) (0 ∷ []) [])
     -- no output, one twice, one that isn't declared, one of a table that isn't used
-    ∷ both false true (over (0 ∷ []) [] [])
-    ∷ both false true (over (0 ∷ []) (1 ∷ 0 ∷ 1 ∷ []) [])
+    ∷ both false true (table0 [] [])
+    ∷ both false true (table0 (1 ∷ 0 ∷ 1 ∷ []) [])
     ∷ both false true (over (0 ∷ 1 ∷ []) (3 ∷ []) [])
-    ∷ both false true (over (0 ∷ []) (2 ∷ []) [])
+    ∷ both false true (table0 (2 ∷ []) [])
     -- the same of either side of a comparison
     ∷ both false true (over (0 ∷ 1 ∷ []) (0 ∷ []) ((against less 3 0 ∷ []) ∷ []))
-    ∷ both false true (over (0 ∷ []) (0 ∷ []) ((against less 2 0 ∷ []) ∷ []))
-    ∷ both false true (over (0 ∷ []) (0 ∷ []) ([] ∷ (against less 0 1 ∷ against less 0 2 ∷ []) ∷ []))
+    ∷ both false true (table0 (0 ∷ []) ((against less 2 0 ∷ []) ∷ []))
+    ∷ both false true (table0 (0 ∷ []) ([] ∷ (against less 0 1 ∷ against less 0 2 ∷ []) ∷ []))
     -- four clauses of six comparisons; five clauses, seven comparisons, a number out of range
-    ∷ both true true (over (0 ∷ []) (0 ∷ []) (replicate 4 (replicate 6 (against less 0 1))))
-    ∷ both true false (over (0 ∷ []) (0 ∷ []) (replicate 5 []))
-    ∷ both true false (over (0 ∷ []) (0 ∷ []) (replicate 7 (against less 0 1) ∷ []))
-    ∷ both true false (over (0 ∷ []) (0 ∷ []) ((above 0 (pos 1000001) ∷ []) ∷ []))
-    ∷ both true false (over (0 ∷ []) (0 ∷ []) ((above 0 (negsuc 1000000) ∷ []) ∷ []))
+    ∷ both true true (table0 (0 ∷ []) (replicate 4 (replicate 6 (against less 0 1))))
+    ∷ both true false (table0 (0 ∷ []) (replicate 5 []))
+    ∷ both true false (table0 (0 ∷ []) (replicate 7 (against less 0 1) ∷ []))
+    ∷ both true false (table0 (0 ∷ []) ((above 0 (pos 1000001) ∷ []) ∷ []))
+    ∷ both true false (table0 (0 ∷ []) ((above 0 (negsuc 1000000) ∷ []) ∷ []))
     -- no table, a table without columns, lo above hi
     ∷ tables false false []
     ∷ tables false true ((bits ∷ []) ∷ [] ∷ [])
@@ -111,16 +117,19 @@ well-formed-samples = tt
 
 -- ---- kinds, with the listing of each column
 
--- column 0 where column 1 equals column 2: two hidden columns that change together
-abbrev tied : Condition → Expression
-tied k = over (0 ∷ 1 ∷ []) (0 ∷ []) k
-
 -- column 1 is known where column 0 is 1, and free where it is 0
 abbrev partly : Condition
 partly = (is 0 (pos 1) ∷ is 1 (pos 1) ∷ []) ∷ (is 0 (pos 0) ∷ []) ∷ []
 
 abbrev bounded : ℤ → ℤ → Bounds
 bounded a b = record { lo = a; hi = b }
+
+-- arm, tool and error
+abbrev checks : List Table
+checks = (bits ∷ bits ∷ bits ∷ []) ∷ []
+
+abbrev oneTool : Expression
+oneTool = table0 (0 ∷ 2 ∷ []) ((is 1 (pos 1) ∷ []) ∷ [])
 
 record Verdict : Type 0 where
   of : Job
@@ -133,21 +142,24 @@ verdict k l j = record { of = j; kind = k; listing = l }
 verdicts : List Verdict
 verdicts =
     verdict 0 (1 ∷ 3 ∷ 0 ∷ []) (job two plain plain)
+    -- the README's example: arm and error of one tool, where the tool isn't stored, and where it is
+    ∷ verdict 3 (1 ∷ 3 ∷ 1 ∷ []) (job checks (table0 (0 ∷ 2 ∷ []) all) oneTool)
+    ∷ verdict 0 (1 ∷ 1 ∷ 1 ∷ []) (job checks (table0 (0 ∷ 1 ∷ 2 ∷ []) all) oneTool)
     -- the query uses more, the extract uses more; never met
-    ∷ verdict 1 (1 ∷ 3 ∷ 0 ∷ []) (job two plain (over (0 ∷ 1 ∷ []) (0 ∷ []) all))
-    ∷ verdict 1 (1 ∷ 3 ∷ 3 ∷ []) (job two (over (0 ∷ 1 ∷ []) (0 ∷ []) all) plain)
-    ∷ verdict 0 (1 ∷ 3 ∷ 0 ∷ []) (job two plain (over (0 ∷ 1 ∷ []) (0 ∷ []) []))
+    ∷ verdict 1 (1 ∷ 3 ∷ 0 ∷ []) (job two plain (product all))
+    ∷ verdict 1 (1 ∷ 3 ∷ 3 ∷ []) (job two (product all) plain)
+    ∷ verdict 0 (1 ∷ 3 ∷ 0 ∷ []) (job two plain (product []))
     -- the query is wider, and narrower; at the highest value of bounds across zero
-    ∷ verdict 2 (1 ∷ 3 ∷ 0 ∷ []) (job two (over (0 ∷ []) (0 ∷ []) ((above 0 (pos 0) ∷ []) ∷ [])) plain)
-    ∷ verdict 0 (1 ∷ 3 ∷ 0 ∷ []) (job two plain (over (0 ∷ []) (0 ∷ []) ((above 0 (pos 0) ∷ []) ∷ [])))
-    ∷ verdict 2 (1 ∷ []) (job ((bounded (negsuc 0) (pos 1) ∷ []) ∷ []) (over (0 ∷ []) (0 ∷ []) ((is 0 (pos 0) ∷ []) ∷ [])) (over (0 ∷ []) (0 ∷ []) ((above 0 (pos 0) ∷ []) ∷ [])))
+    ∷ verdict 2 (1 ∷ 3 ∷ 0 ∷ []) (job two (table0 (0 ∷ []) ((above 0 (pos 0) ∷ []) ∷ [])) plain)
+    ∷ verdict 0 (1 ∷ 3 ∷ 0 ∷ []) (job two plain (table0 (0 ∷ []) ((above 0 (pos 0) ∷ []) ∷ [])))
+    ∷ verdict 2 (1 ∷ []) (job ((bounded (negsuc 0) (pos 1) ∷ []) ∷ []) (table0 (0 ∷ []) ((is 0 (pos 0) ∷ []) ∷ [])) (table0 (0 ∷ []) ((above 0 (pos 0) ∷ []) ∷ [])))
     -- two hidden columns that only change together (case 15)
-    ∷ verdict 3 (1 ∷ 3 ∷ 3 ∷ []) (job two (tied ((against equal 1 2 ∷ []) ∷ [])) (tied ((is 1 (pos 0) ∷ against equal 1 2 ∷ []) ∷ [])))
+    ∷ verdict 3 (1 ∷ 3 ∷ 3 ∷ []) (job two (product ((against equal 1 2 ∷ []) ∷ [])) (product ((is 1 (pos 0) ∷ against equal 1 2 ∷ []) ∷ [])))
     -- a hidden output: free, with one value only, fixed by the condition, known where the query asks (case 9)
-    ∷ verdict 4 (1 ∷ 3 ∷ 0 ∷ []) (job two plain (over (0 ∷ []) (1 ∷ []) all))
-    ∷ verdict 0 (1 ∷ 2 ∷ []) (job ((bits ∷ bounded (pos 1) (pos 1) ∷ []) ∷ []) plain (over (0 ∷ []) (1 ∷ []) all))
-    ∷ verdict 0 (1 ∷ 2 ∷ 0 ∷ []) (job two (over (0 ∷ []) (0 ∷ []) ((against less 0 1 ∷ []) ∷ [])) (over (0 ∷ []) (1 ∷ []) ((against less 0 1 ∷ []) ∷ [])))
-    ∷ verdict 0 (1 ∷ 3 ∷ 0 ∷ []) (job two (over (0 ∷ []) (0 ∷ []) partly) (over (0 ∷ []) (1 ∷ []) ((is 0 (pos 1) ∷ is 1 (pos 1) ∷ []) ∷ [])))
+    ∷ verdict 4 (1 ∷ 3 ∷ 0 ∷ []) (job two plain (table0 (1 ∷ []) all))
+    ∷ verdict 0 (1 ∷ 2 ∷ []) (job ((bits ∷ bounded (pos 1) (pos 1) ∷ []) ∷ []) plain (table0 (1 ∷ []) all))
+    ∷ verdict 0 (1 ∷ 2 ∷ 0 ∷ []) (job two (table0 (0 ∷ []) ((against less 0 1 ∷ []) ∷ [])) (table0 (1 ∷ []) ((against less 0 1 ∷ []) ∷ [])))
+    ∷ verdict 0 (1 ∷ 3 ∷ 0 ∷ []) (job two (table0 (0 ∷ []) partly) (table0 (1 ∷ []) ((is 0 (pos 1) ∷ is 1 (pos 1) ∷ []) ∷ [])))
     ∷ []
 
 -- each column's listing is the one that stands there
@@ -167,7 +179,7 @@ verdict-samples = tt
 -- ---- the two databases of kind 1, where the extract uses a further table: no extract row on either, and a query row on the first
 
 pair : Job
-pair = job two (over (0 ∷ 1 ∷ []) (0 ∷ []) all) plain
+pair = job two (product all) plain
 
 zeros : Row
 zeros = pos 0 ∷ pos 0 ∷ pos 0 ∷ []
@@ -203,7 +215,7 @@ unfolding fillOf extractRows rowsOf uses meets outputsOf clauseHolds conditionHo
 fill-order = refl
 
 -- stored rows in their order; one that gives nothing, and one that gives a row again, are passed over
-run-order : runOf (job two (over (0 ∷ []) (0 ∷ 1 ∷ []) all) (over (0 ∷ []) (0 ∷ []) ((above 1 (pos 0) ∷ []) ∷ [])))
+run-order : runOf (job two (table0 (0 ∷ 1 ∷ []) all) (table0 (0 ∷ []) ((above 1 (pos 0) ∷ []) ∷ [])))
     ((pos 1 ∷ pos 0 ∷ []) ∷ (pos 1 ∷ pos 1 ∷ []) ∷ (pos 0 ∷ pos 1 ∷ []) ∷ (pos 1 ∷ pos 1 ∷ []) ∷ [])
     ≡ (pos 1 ∷ []) ∷ (pos 0 ∷ []) ∷ []
 unfolding runOf runBy standIn standsIn valuesOf uses meets outputsOf clauseHolds conditionHolds
