@@ -5,11 +5,12 @@ use mathlib.Core.Logic.{_↔_}
 use mathlib.Core.Bool.{Bool, true, false, not, cond}
 use mathlib.Core.List.{List, [], _∷_}
 use mathlib.Core.Option.{Option, none, some}
-use Prim.Native.Nat.{ℕ}
+use Prim.Native.Nat.{ℕ, _<_}
+use lib.ListN.{length}
 use native.Mathlib.Decide.{ℕ-discrete}
 use lib.Dec.{T, eqb}
 use Rattle.model.specs.Lists.{_∈_, Same, Distinct, anyOf, allOf, ifAny}
-use Rattle.model.specs.Tables.{Bounds, Table, Row, OutputRow, Comparison, Expression, Job, clauseHolds, meets, outputsOf, uses, tableOf, within, Database, WithinBounds, rowsOf, columnsOf, Condition, value, conditionHolds}
+use Rattle.model.specs.Tables.{Bounds, Table, Row, OutputRow, Comparison, Expression, Job, clauseHolds, meets, outputsOf, uses, tableOf, within, Database, WithinBounds, rowsOf, columnsOf, Condition, value, conditionHolds, partOf}
 use Rattle.model.specs.WellFormed.{tableFormed, expressionFormed, structured, usable}
 use Rattle.model.specs.Rows.{someRow, twoRows}
 use Rattle.model.specs.Least.{atMostRow, leastRow}
@@ -20,7 +21,6 @@ use Rattle.model.proofs.Rows.{some-has, has-some, two-has, has-two}
 use Rattle.model.proofs.Least as least
 use Rattle.model.proofs.Verdict.{kind-1, kind-more, never-met}
 use Rattle.model.proofs.Running as running
-use Rattle.model.proofs.Combinations.{Combines}
 use Rattle.model.proofs.Scope.{JobFormed, is-formed, job-formed, same-meets, same-outputs, rows-are}
 use Rattle.model.proofs.Evidence as found
 use Rattle.model.proofs.Listing.{listing-2}
@@ -49,8 +49,12 @@ module _ (ts : List Table) (e : Expression) (formed : T (expressionFormed ts e))
 
   -- its rows are the outputs of every row within bounds that meets the condition and whose part in each used table is a row of that table
   pub expression-rows : (d : Database) → T (allOf tableFormed ts) → WithinBounds ts d → (o : OutputRow)
-      → (o ∈ rowsOf ts e d) ↔ ((r : Row) × T (within (columnsOf ts) r) × Combines (uses e) ts d r × T (meets e r) × (outputsOf e r ≡ o))
+      → (o ∈ rowsOf ts e d) ↔ ((r : Row) × T (within (columnsOf ts) r) × ((t : ℕ) → t < length ts → T (uses e t) → partOf ts r t ∈ d t) × T (meets e r) × (outputsOf e r ≡ o))
   expression-rows d f w o = rows-are ts e d f (is-formed ts e formed) w o
+
+-- where no row meets the query's condition the kind is 0, whatever else holds
+pub query-never-met : (j : Job) → T (not (someRow (columns j) (meetsQuery j))) → kindOf j ≡ 0
+query-never-met = never-met
 
 module _ (j : Job) (formed : T (structured j)) where
   job : JobFormed j
@@ -103,23 +107,20 @@ module _ (j : Job) (formed : T (structured j)) where
   pub run-lists : kindOf j ≡ 0 → (d : Database) → WithinBounds (j .tables) d → (ss : List OutputRow) → Same ss (extractRows j d) → Same (runOf j ss) (queryRows j d) × Distinct (runOf j ss)
   run-lists k d w ss s = (running.run-same j job k d w ss s, running.run-distinct j ss)
 
-  -- ---- 4. Filling lists the extract's rows, each once
+-- ---- 4. Filling lists the extract's rows, each once
 
-  pub fill-lists : (d ranges : Database) → RangesHold j ranges d → Same (fillOf j ranges) (extractRows j d) × Distinct (fillOf j ranges)
-  fill-lists d ranges h = (running.fill-same j d ranges h, running.fill-distinct j ranges)
+pub fill-lists : (j : Job) (d ranges : Database) → RangesHold j ranges d → Same (fillOf j ranges) (extractRows j d) × Distinct (fillOf j ranges)
+fill-lists j d ranges h = (running.fill-same j d ranges h, running.fill-distinct j ranges)
 
-  -- ---- 5. Where the kind is 0, a run's rows don't depend on which rows stand in for the stored ones
+-- ---- 5. Where the kind is 0, a run's rows don't depend on which rows stand in for the stored ones
 
-  pub stand-ins-alike : kindOf j ≡ 0 → (choice : OutputRow → Option Row) → StandIns j choice → (ss : List OutputRow) → runBy j choice ss ≡ runOf j ss
-  stand-ins-alike k choice c ss = running.run-by-any j job k choice c ss
+module _ (j : Job) (formed : T (structured j)) (computable : kindOf j ≡ 0) where
+  pub stand-ins-alike : (choice : OutputRow → Option Row) → StandIns j choice → (ss : List OutputRow) → runBy j choice ss ≡ runOf j ss
+  stand-ins-alike choice c ss = running.run-by-any j (job-formed j formed) computable choice c ss
 
   -- any row that has the stored values and meets the extract's condition decides whether the stored row gives a query row, and which
-  pub one-row-decides : kindOf j ≡ 0 → (s : OutputRow) (r : Row) → T (within (columns j) r) → stored j r ≡ s → T (meetsExtract j r) → ifAny (standIn j s) (answer j) ≡ cond (meetsQuery j r) (answer j r ∷ []) []
-  one-row-decides k s r w a e = running.one-decides j job k (standIn j) (running.first-stand-in j) s r w a e
-
--- where no row meets the query's condition the kind is 0, whatever else holds
-pub query-never-met : (j : Job) → T (not (someRow (columns j) (meetsQuery j))) → kindOf j ≡ 0
-query-never-met = never-met
+  pub one-row-decides : (s : OutputRow) (r : Row) → T (within (columns j) r) → stored j r ≡ s → T (meetsExtract j r) → ifAny (standIn j s) (answer j) ≡ cond (meetsQuery j r) (answer j r ∷ []) []
+  one-row-decides s r w a e = running.one-decides j (job-formed j formed) computable (standIn j) (running.first-stand-in j) s r w a e
 
 -- ---- 6. The listing's 2: its table is used, it isn't stored, and any two rows that meet the extract's condition and agree in the stored columns
 -- agree in it

@@ -49,18 +49,21 @@ module _ (j : Job) where
   unfoldable pub kind1 : Bool
   kind1 = tablesDiffer && someRow columns meetsQuery
 
+  -- a row that meets the query's condition and not the extract's
   unfoldable pub witness2 : Row → Bool
   witness2 r = meetsQuery r && not (meetsExtract r)
 
   unfoldable pub kind2 : Bool
   kind2 = someRow columns witness2
 
+  -- two rows that the extract can't tell apart, one of which meets the query's condition and the other doesn't
   unfoldable pub witness3 : Row → Row → Bool
   witness3 r s = alikeInExtract r s && meetsQuery r && not (meetsQuery s)
 
   unfoldable pub kind3 : Bool
   kind3 = twoRows columns witness3
 
+  -- two rows that the extract can't tell apart, which meet the query's condition and differ in a query output
   unfoldable pub witness4 : Row → Row → Bool
   witness4 r s = alikeInExtract r s && meetsQuery r && meetsQuery s && not (sameRow (answer r) (answer s))
 
@@ -73,7 +76,7 @@ module _ (j : Job) where
 
   -- ---- The listing of a column
 
-  -- two rows that show that column c isn't fixed
+  -- two rows that the extract can't tell apart, which differ in column c
   unfoldable pub unfixing : ℕ → Row → Row → Bool
   unfixing c r s = alikeInExtract r s && not (eqZ (value r c) (value s c))
 
