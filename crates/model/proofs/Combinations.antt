@@ -9,13 +9,13 @@ use lib.ListN.{length, getD, take, drop, length-append, length-map, List·getD-a
 use lib.Seq.{take-at, drop-at, getD-take, getD-drop, getD-append-add, length-take-le}
 use lib.IntN.{pos}
 use lib.Signed.{leZ}
+use mir.Facts.{and-yes, yes-and}
 use lib.Dec.{T, ltb, ltb→lt, nltb→le}
 use Rattle.words.proofs.Order.{leZ-refl}
-use Rattle.model.specs.Lists.{_∈_, allOf, joined, isEmpty, forEach}
+use Rattle.model.specs.Lists.{_∈_, allOf, concat, isEmpty, flatMap}
 use Rattle.model.specs.Tables.{Table, Row, TableRow, value, tableOf, partOf, inside, within, Database, WithinBounds, combinations, columnsOf}
 use Rattle.model.specs.WellFormed.{tableFormed}
-use Rattle.model.proofs.Lists.{T-and, and-T, T-is, each-has, has-each, each-nil}
-use Rattle.model.proofs.Rows.{within-length, within-append, within-split}
+use Rattle.model.proofs.Lists.{pairwise-length, pairwise-append, pairwise-split, T-is, flatMap-has, has-flatMap, flatMap-nil}
 
 abbrev lows : Table → TableRow
 lows b = map (λ c. c .lo) b
@@ -23,8 +23,8 @@ lows b = map (λ c. c .lo) b
 lows-within : (bs : Table) → T (allOf (λ b. leZ (b .lo) (b .hi)) bs) → T (within bs (lows bs))
 lows-within [] p = tt
 lows-within (b ∷ bs) p =
-    let (h, k) = T-and (leZ (b .lo) (b .hi)) (allOf (λ b. leZ (b .lo) (b .hi)) bs) p in
-    and-T (inside b (b .lo)) (within bs (lows bs)) (and-T (leZ (b .lo) (b .lo)) (leZ (b .lo) (b .hi)) (leZ-refl (b .lo)) h) (lows-within bs k)
+    let (h, k) = and-yes (leZ (b .lo) (b .hi)) (allOf (λ b. leZ (b .lo) (b .hi)) bs) p in
+    yes-and (inside b (b .lo)) (within bs (lows bs)) (yes-and (leZ (b .lo) (b .lo)) (leZ (b .lo) (b .hi)) (leZ-refl (b .lo)) h) (lows-within bs k)
 
 -- a combination is a row of the first table, or its lows where it isn't used, and a combination of the others
 module _ (u : ℕ → Bool) (b : Table) (bs : List Table) (d : Database) where
@@ -36,21 +36,21 @@ module _ (u : ℕ → Bool) (b : Table) (bs : List Table) (d : Database) where
 
   split : {r : Row} → r ∈ combinations u (b ∷ bs) d → (x : Row) × (s : Row) × (x ∈ fronts) × (s ∈ rests) × (x ++ s ≡ r)
   split m =
-      let (x, n, k) = each-has fronts (λ x. map (λ s. x ++ s) rests) m in
+      let (x, n, k) = flatMap-has fronts (λ x. map (λ s. x ++ s) rests) m in
       let (s, l, e) = Memᴰ·of-map (λ s. x ++ s) rests k in
       (x, s, n, l, e)
 
 front-within : (b : Table) (d : Database) (c : Bool) → T (tableFormed b) → ((r : TableRow) → r ∈ d zero → T (within b r)) → {x : TableRow} → x ∈ cond c (d zero) (lows b ∷ []) → T (within b x)
 front-within b d true p w {x} m = w x m
-front-within b d false p w m = rw (List·Memᴰ·eq-of-singleton m) (lows-within b ((T-and (not (isEmpty b)) (allOf (λ c. leZ (c .lo) (c .hi)) b) p) .1))
+front-within b d false p w m = rw (List·Memᴰ·eq-of-singleton m) (lows-within b ((and-yes (not (isEmpty b)) (allOf (λ c. leZ (c .lo) (c .hi)) b) p) .1))
 
 -- combinations of a database are rows within bounds
 pub combinations-within : (u : ℕ → Bool) (ts : List Table) (d : Database) → T (allOf tableFormed ts) → WithinBounds ts d → {r : Row} → r ∈ combinations u ts d → T (within (columnsOf ts) r)
 combinations-within u [] d f w m = rw (List·Memᴰ·eq-of-singleton m) tt
 combinations-within u (b ∷ bs) d f w m =
     let (x, s, n, l, e) = split u b bs d m in
-    let (p, g) = T-and (tableFormed b) (allOf tableFormed bs) f in
-    rw (← e) (within-append b (joined bs) x s (front-within b d (u zero) p (w zero (suc-le-suc zero-le)) n) (combinations-within (λ t. u (suc t)) bs (λ t. d (suc t)) g (λ t lt. w (suc t) (suc-le-suc lt)) l))
+    let (p, g) = and-yes (tableFormed b) (allOf tableFormed bs) f in
+    rw (← e) (pairwise-append inside b (concat bs) x s (front-within b d (u zero) p (w zero (suc-le-suc zero-le)) n) (combinations-within (λ t. u (suc t)) bs (λ t. d (suc t)) g (λ t lt. w (suc t) (suc-le-suc lt)) l))
 
 -- they depend on which tables are used, and on the rows in these
 pub combinations-cong : (u v : ℕ → Bool) (ts : List Table) (d f : Database) → ((t : ℕ) → t < length ts → u t ≡ v t) → ((t : ℕ) → t < length ts → T (u t) → d t ≡ f t) → combinations u ts d ≡ combinations v ts f
@@ -71,7 +71,7 @@ pub combinations-more : (u : ℕ → Bool) (ts : List Table) (d f : Database) �
 combinations-more u [] d f h m = m
 combinations-more u (b ∷ bs) d f h m =
     let (x, s, n, l, e) = split u b bs d m in
-    has-each (λ x. map (λ s. x ++ s) (rests u b bs f)) (front (u zero) (h zero (suc-le-suc zero-le)) n)
+    has-flatMap (λ x. map (λ s. x ++ s) (rests u b bs f)) (front (u zero) (h zero (suc-le-suc zero-le)) n)
     (Memᴰ·cast (sym e) (Memᴰ·map (λ s. x ++ s) (combinations-more (λ t. u (suc t)) bs (λ t. d (suc t)) (λ t. f (suc t)) (λ t lt. h (suc t) (suc-le-suc lt)) l)))
   where
     front : (c : Bool) → (T c → (x : TableRow) → x ∈ d zero → x ∈ f zero) → {x : TableRow} → x ∈ cond c (d zero) (lows b ∷ []) → x ∈ cond c (f zero) (lows b ∷ [])
@@ -83,7 +83,7 @@ pub combinations-none : (u : ℕ → Bool) (ts : List Table) (d : Database) (t :
 combinations-none u [] d t lt h e = absurd (not-suc-le-zero lt)
 combinations-none u (b ∷ bs) d zero lt h e = rw (T-is (u zero) h, e)
 combinations-none u (b ∷ bs) d (suc t) lt h e =
-    rw (combinations-none (λ s. u (suc s)) bs (λ s. d (suc s)) t (le-of-suc-le-suc lt) h e) (each-nil (fronts u b bs d))
+    rw (combinations-none (λ s. u (suc s)) bs (λ s. d (suc s)) t (le-of-suc-le-suc lt) h e) (flatMap-nil (fronts u b bs d))
 
 -- ---- a database of one row
 
@@ -101,7 +101,7 @@ combinations-one u (b ∷ bs) r d h =
     rest : Row
     rest = blend (λ t. u (suc t)) bs (drop (length b) r)
 
-    front : (c : Bool) → (T c → d zero ≡ take (length b) r ∷ []) → forEach (cond c (d zero) (lows b ∷ [])) (λ x. (x ++ rest) ∷ []) ≡ (cond c (take (length b) r) (lows b) ++ rest) ∷ []
+    front : (c : Bool) → (T c → d zero ≡ take (length b) r ∷ []) → flatMap (cond c (d zero) (lows b ∷ [])) (λ x. (x ++ rest) ∷ []) ≡ (cond c (take (length b) r) (lows b) ++ rest) ∷ []
     front true e = rw (e tt)
     front false e = refl
 
@@ -115,10 +115,10 @@ past x y r n c e le h =
 -- it has the row's value in every column of a used table
 pub blend-value : (u : ℕ → Bool) (ts : List Table) (r : Row) (c : ℕ) → T (within (columnsOf ts) r) → c < length (columnsOf ts) → T (u (tableOf ts c)) → value (blend u ts r) c ≡ value r c
 blend-value u [] r c w lt h = absurd (not-suc-le-zero lt)
-blend-value u (b ∷ bs) r c w lt h = go (ltb c (length b)) refl (blend-value (λ t. u (suc t)) bs (drop (length b) r) (c - length b) ((within-split b (joined bs) r w) .1))
+blend-value u (b ∷ bs) r c w lt h = go (ltb c (length b)) refl (blend-value (λ t. u (suc t)) bs (drop (length b) r) (c - length b) ((pairwise-split inside b (concat bs) r w) .1))
   where
     long : length b ≤ length r
-    long = let k = within-length (b ++ joined bs) r w in omega (arith, length-append b (joined bs))
+    long = let k = pairwise-length inside (b ++ concat bs) r w in omega (arith, length-append b (concat bs))
 
     width : (a : Bool) → length (cond a (take (length b) r) (lows b)) ≡ length b
     width true = length-take-le (length b) r long
@@ -128,7 +128,7 @@ blend-value u (b ∷ bs) r c w lt h = go (ltb c (length b)) refl (blend-value (�
     rest = blend (λ t. u (suc t)) bs (drop (length b) r)
 
     go : (a : Bool) → ltb c (length b) ≡ a
-        → (c - length b < length (joined bs) → T (u (suc (tableOf bs (c - length b)))) → value rest (c - length b) ≡ value (drop (length b) r) (c - length b))
+        → (c - length b < length (concat bs) → T (u (suc (tableOf bs (c - length b)))) → value rest (c - length b) ≡ value (drop (length b) r) (c - length b))
         → value (cond (u zero) (take (length b) r) (lows b) ++ rest) c ≡ value r c
     go true e below =
         let k : c < length b = ltb→lt c (length b) (rw e tt) in
@@ -136,13 +136,13 @@ blend-value u (b ∷ bs) r c w lt h = go (ltb c (length b)) refl (blend-value (�
         rw (T-is (u zero) f) (List·getD-append (take (length b) r) _ (pos 0) c (omega (arith, width true)) ∙ getD-take (length b) r c (pos 0) k)
     go false e below =
         let k : length b ≤ c = nltb→le c (length b) (rw e tt) in
-        past (cond (u zero) (take (length b) r) (lows b)) rest r (length b) c (width (u zero)) k (below (omega (arith, length-append b (joined bs))) (rw e at h))
+        past (cond (u zero) (take (length b) r) (lows b)) rest r (length b) c (width (u zero)) k (below (omega (arith, length-append b (concat bs))) (rw e at h))
 
 -- a row's parts are within their tables' bounds
 pub part-within : (ts : List Table) (r : Row) → T (within (columnsOf ts) r) → (t : ℕ) → t < length ts → T (within (getD ts t []) (partOf ts r t))
 part-within [] r w t lt = absurd (not-suc-le-zero lt)
-part-within (b ∷ bs) r w zero lt = (within-split b (joined bs) r w) .0
-part-within (b ∷ bs) r w (suc t) lt = part-within bs (drop (length b) r) ((within-split b (joined bs) r w) .1) t (le-of-suc-le-suc lt)
+part-within (b ∷ bs) r w zero lt = (pairwise-split inside b (concat bs) r w) .0
+part-within (b ∷ bs) r w (suc t) lt = part-within bs (drop (length b) r) ((pairwise-split inside b (concat bs) r w) .1) t (le-of-suc-le-suc lt)
 
 -- ---- what combinations are, with no word of the columns of other tables
 
@@ -154,8 +154,8 @@ pub combinations-combine : (u : ℕ → Bool) (ts : List Table) (d : Database) �
 combinations-combine u [] d f w m t lt h = absurd (not-suc-le-zero lt)
 combinations-combine u (b ∷ bs) d f w m t lt h =
     let (x, s, n, l, e) = split u b bs d m in
-    let (p, g) = T-and (tableFormed b) (allOf tableFormed bs) f in
-    go x s n e (within-length b x (front-within b d (u zero) p (w zero (suc-le-suc zero-le)) n)) (combinations-combine (λ t. u (suc t)) bs (λ t. d (suc t)) g (λ t lt. w (suc t) (suc-le-suc lt)) l) t lt h
+    let (p, g) = and-yes (tableFormed b) (allOf tableFormed bs) f in
+    go x s n e (pairwise-length inside b x (front-within b d (u zero) p (w zero (suc-le-suc zero-le)) n)) (combinations-combine (λ t. u (suc t)) bs (λ t. d (suc t)) g (λ t lt. w (suc t) (suc-le-suc lt)) l) t lt h
   where
     go : {r : Row} (x s : Row) → x ∈ fronts u b bs d → x ++ s ≡ r → length x ≡ length b → Combines (λ t. u (suc t)) bs (λ t. d (suc t)) s → Combines u (b ∷ bs) d r
     go x s n e len below zero lt h = rw (← e, take-at x s (length b) len) (rw (T-is (u zero) h) at n)
@@ -164,7 +164,7 @@ combinations-combine u (b ∷ bs) d f w m t lt h =
 pub combine-combinations : (u : ℕ → Bool) (ts : List Table) (d : Database) (r : Row) → Combines u ts d r → blend u ts r ∈ combinations u ts d
 combine-combinations u [] d r h = List·Memᴰ·head refl
 combine-combinations u (b ∷ bs) d r h =
-    has-each (λ x. map (λ s. x ++ s) (rests u b bs d)) (front (u zero) (h zero (suc-le-suc zero-le))) (Memᴰ·map (λ s. cond (u zero) (take (length b) r) (lows b) ++ s) (combine-combinations (λ t. u (suc t)) bs (λ t. d (suc t)) (drop (length b) r) (λ t lt. h (suc t) (suc-le-suc lt))))
+    has-flatMap (λ x. map (λ s. x ++ s) (rests u b bs d)) (front (u zero) (h zero (suc-le-suc zero-le))) (Memᴰ·map (λ s. cond (u zero) (take (length b) r) (lows b) ++ s) (combine-combinations (λ t. u (suc t)) bs (λ t. d (suc t)) (drop (length b) r) (λ t lt. h (suc t) (suc-le-suc lt))))
   where
     front : (c : Bool) → (T c → take (length b) r ∈ d zero) → cond c (take (length b) r) (lows b) ∈ cond c (d zero) (lows b ∷ [])
     front true g = g tt

@@ -2,11 +2,12 @@
 -- Rests on predicates, outputs and used tables alone. Assumes nothing.
 use mathlib.Core.Path.{_≡_, refl}
 use mathlib.Core.Bool.{not}
+use mir.Facts.{yes-and}
 use lib.Dec.{T, T-not}
 use Rattle.model.specs.Tables.{Row, Job, Database, within, uses, combinations}
 use Rattle.model.specs.Rows.{sameRow}
 use Rattle.model.specs.Verdict.{columns, witness2, witness3, witness4, kind1, kind2, kind3, kind4, kindOf, answer, meetsExtract, meetsQuery}
-use Rattle.model.proofs.Lists.{and-T, stable}
+use Rattle.model.proofs.Lists.{stable}
 use Rattle.model.proofs.Rows.{has-some, has-two, same-row-is}
 use Rattle.model.proofs.Verdict.{Alike, has-witness3, has-witness4, NoKind, kind-0, tables-same, same-uses}
 use Rattle.model.proofs.Combinations.{combinations-cong}
@@ -25,7 +26,7 @@ module _ (j : Job) (formed : JobFormed j) (kind0 : kindOf j ≡ 0) where
     -- it meets the extract's too
     pub extract-met : T (meetsExtract j r)
     unfolding kind2 witness2
-    extract-met = stable (meetsExtract j r) (λ x. T-not (kind2 j) (none-applies .not2) (has-some (columns j) (witness2 j) r w (and-T (meetsQuery j r) (not (meetsExtract j r)) q x)))
+    extract-met = stable (meetsExtract j r) (λ x. T-not (kind2 j) (none-applies .not2) (has-some (columns j) (witness2 j) r w (yes-and (meetsQuery j r) (not (meetsExtract j r)) q x)))
 
   -- two rows that meet the extract's condition and agree in the stored columns, one of which meets the query's
   module _ (r s : Row) (v : T (within (columns j) r)) (w : T (within (columns j) s)) (t : Alike j r s) (qr : T (meetsQuery j r)) where

@@ -3,20 +3,25 @@
 use mathlib.Core.Path.{_≡_, refl, sym, ap, _∙_}
 use mathlib.Core.Logic.{_⊎_, inl, inr}
 use mathlib.Core.Bool.{Bool, true, false, not, cond, _&&_}
-use mathlib.Core.List.{[], _∷_, List·Memᴰ·head, List·Memᴰ·not-nil, List·Memᴰ·eq-of-singleton}
+use mathlib.Core.List.{List, [], _∷_, List·Memᴰ·head, List·Memᴰ·not-nil, List·Memᴰ·eq-of-singleton}
 use Prim.Native.Nat.{ℕ, _≤_}
 use native.Mathlib.Omega.{arith}
 use lib.ListN.{length, getD}
+use mir.Facts.{and-yes, or-yes}
 use lib.Dec.{T, T-not}
-use Rattle.model.specs.Lists.{_∈_, Same}
-use Rattle.model.specs.Tables.{Row, OutputRow, Job, Database, WithinBounds, within, uses, partOf}
+use Rattle.model.specs.Lists.{_∈_, SameSet}
+use Rattle.model.specs.Tables.{Row, OutputRow, Job, Database, WithinBounds, within, uses, partOf, rowsOf}
 use Rattle.model.specs.Rows.{someRow, sameRow}
 use Rattle.model.specs.Verdict.{usesOther, columns, tablesDiffer, witness2, witness3, witness4, kind1, kind2, kind3, kind4, kindOf, extractRows, queryRows, Apart, AtMostOneRow, Evidence, rowDatabase, reducedDatabase, answer, meetsExtract, stored, emptyDatabase, meetsQuery}
-use Rattle.model.proofs.Lists.{T-and, T-or, T-is, not-is, same-is, one-none}
+use Rattle.model.proofs.Lists.{T-is, not-is, same-is, one-none}
 use Rattle.model.proofs.Rows.{some-has, two-has, is-same-row}
-use Rattle.model.proofs.Verdict.{Alike, witness3-has, witness4-has, kind-any, tables-same, same-uses}
+use Rattle.model.proofs.Verdict.{Alike, witness3-has, witness4-has, kind-any}
 use Rattle.model.proofs.Combinations.{part-within}
-use Rattle.model.proofs.Scope.{JobFormed, other-used, rows-none, rows-empty, rows-one, rows-cong}
+use Rattle.model.proofs.Scope.{JobFormed, other-used, rows-none, rows-empty, rows-one, rows-cong, none-other}
+
+nothing : (b : Bool) → _≡_ {A = List OutputRow} (cond b [] []) []
+nothing true = refl
+nothing false = refl
 
 -- ---- a database thinned out: no row in some tables
 abbrev thinned : (ℕ → Bool) → Database → Database
@@ -93,10 +98,14 @@ module _ (j : Job) (formed : JobFormed j) where
     unfolding queryRows
     query-one e = rw (← e) (rows-one (j .tables) (j .query) (formed .query) r w (rowDatabase j r) (λ t lt u. one-used t u))
 
-    -- where the used tables are the same
-    extract-one : T (not (tablesDiffer j)) → {b : Bool} → meetsExtract j r ≡ b → extractRows j (rowDatabase j r) ≡ cond b (stored j r ∷ []) []
+    -- none where the extract uses a table that the query doesn't
+    extract-one : {b : Bool} → meetsExtract j r ≡ b → extractRows j (rowDatabase j r) ≡ cond (usesOther (j .extract) (j .query)) [] (cond b (stored j r ∷ []) [])
     unfolding extractRows
-    extract-one n e = rw (← e) (rows-one (j .tables) (j .extract) (formed .extract) r w (rowDatabase j r) (λ t lt u. one-used t (rw (same-uses j n t) at u)))
+    extract-one {b} e = go (usesOther (j .extract) (j .query)) refl
+      where
+        go : (o : Bool) → usesOther (j .extract) (j .query) ≡ o → rowsOf (j .tables) (j .extract) (rowDatabase j r) ≡ cond o [] (cond b (stored j r ∷ []) [])
+        go true f = let (t, u, n) = other-used (j .extract) (j .query) (rw f tt) in rows-none (j .tables) (j .extract) (rowDatabase j r) (formed .extract) t u (one-unused t n)
+        go false f = rw (← e) (rows-one (j .tables) (j .extract) (formed .extract) r w (rowDatabase j r) (λ t lt u. one-used t (none-other (j .extract) (j .query) (rw f tt) t u)))
 
     -- ---- kind 1
     module _ (differ : T (tablesDiffer j)) (q : T (meetsQuery j r)) where
@@ -127,7 +136,7 @@ module _ (j : Job) (formed : JobFormed j) where
 
       apart-1 : Evidence j (rowDatabase j r) (reducedDatabase j r)
       unfolding tablesDiffer
-      apart-1 = record { apart = go (usesOther (j .query) (j .extract)) refl (T-or (usesOther (j .extract) (j .query)) (usesOther (j .query) (j .extract)) differ); first-small = one-small; second-small = less-small }
+      apart-1 = record { apart = go (usesOther (j .query) (j .extract)) refl (or-yes (usesOther (j .extract) (j .query)) (usesOther (j .query) (j .extract)) differ); first-small = one-small; second-small = less-small }
         where
           go : (b : Bool) → usesOther (j .query) (j .extract) ≡ b → T (usesOther (j .extract) (j .query)) ⊎ T (usesOther (j .query) (j .extract)) → Apart j (rowDatabase j r) (reducedDatabase j r)
           go true e x = query-more (rw e tt)
@@ -135,15 +144,15 @@ module _ (j : Job) (formed : JobFormed j) where
           go false e (inr x) = query-more x
 
     -- ---- kind 2
-    apart-2 : T (not (tablesDiffer j)) → T (witness2 j r) → Evidence j (rowDatabase j r) emptyDatabase
+    apart-2 : T (witness2 j r) → Evidence j (rowDatabase j r) emptyDatabase
     unfolding witness2
-    apart-2 n x =
-        let (q, e) = T-and (meetsQuery j r) (not (meetsExtract j r)) x in
+    apart-2 x =
+        let (q, e) = and-yes (meetsQuery j r) (not (meetsExtract j r)) x in
         record {
           apart = record {
             first-within = one-within;
             second-within = none-within;
-            same-extract = same-is (extract-one n (not-is (meetsExtract j r) e) ∙ sym no-extract);
+            same-extract = same-is (extract-one (not-is (meetsExtract j r) e) ∙ nothing (usesOther (j .extract) (j .query)) ∙ sym no-extract);
             other-query = one-none (query-one (T-is (meetsQuery j r) q)) no-query;
           };
           first-small = one-small;
@@ -151,13 +160,13 @@ module _ (j : Job) (formed : JobFormed j) where
         }
 
   -- ---- kinds 3 and 4: two rows that meet the extract's condition and agree in the stored columns
-  module _ (same-tables : T (not (tablesDiffer j))) (r s : Row) (v : T (within (columns j) r)) (w : T (within (columns j) s)) where
-    two : Alike j r s → ¬ Same (queryRows j (rowDatabase j r)) (queryRows j (rowDatabase j s)) → Evidence j (rowDatabase j r) (rowDatabase j s)
+  module _ (r s : Row) (v : T (within (columns j) r)) (w : T (within (columns j) s)) where
+    two : Alike j r s → ¬ SameSet (queryRows j (rowDatabase j r)) (queryRows j (rowDatabase j s)) → Evidence j (rowDatabase j r) (rowDatabase j s)
     two t n = record {
       apart = record {
         first-within = one-within r v;
         second-within = one-within s w;
-        same-extract = same-is (extract-one r v same-tables (T-is (meetsExtract j r) (t .first-extract)) ∙ ap (λ (x : OutputRow). x ∷ []) (t .agreed) ∙ sym (extract-one s w same-tables (T-is (meetsExtract j s) (t .second-extract))));
+        same-extract = same-is (extract-one r v (T-is (meetsExtract j r) (t .first-extract)) ∙ ap (λ (x : OutputRow). cond (usesOther (j .extract) (j .query)) [] (x ∷ [])) (t .agreed) ∙ sym (extract-one s w (T-is (meetsExtract j s) (t .second-extract))));
         other-query = n;
       };
       first-small = one-small r v;
@@ -173,26 +182,23 @@ module _ (j : Job) (formed : JobFormed j) where
 
 -- ---- the databases, by kind
 module _ (j : Job) (formed : JobFormed j) where
-  pub evidence-1 : T (kind1 j) → (r : Row) → T (within (columns j) r) → T (meetsQuery j r) → Evidence j (rowDatabase j r) (reducedDatabase j r)
-  unfolding kind1
-  evidence-1 k r w q = apart-1 j formed r w ((T-and (tablesDiffer j) (someRow (columns j) (meetsQuery j)) k) .0) q
+  pub evidence-1 : T (tablesDiffer j) → (r : Row) → T (within (columns j) r) → T (meetsQuery j r) → Evidence j (rowDatabase j r) (reducedDatabase j r)
+  evidence-1 differ r w q = apart-1 j formed r w differ q
 
-  module _ (not1 : T (not (kind1 j))) where
-    pub evidence-2 : (r : Row) → T (within (columns j) r) → T (witness2 j r) → Evidence j (rowDatabase j r) emptyDatabase
-    unfolding witness2
-    evidence-2 r w x = apart-2 j formed r w (tables-same j not1 r w ((T-and (meetsQuery j r) (not (meetsExtract j r)) x) .0)) x
+  pub evidence-2 : (r : Row) → T (within (columns j) r) → T (witness2 j r) → Evidence j (rowDatabase j r) emptyDatabase
+  evidence-2 r w x = apart-2 j formed r w x
 
-    pub evidence-3 : (r s : Row) → T (within (columns j) r) → T (within (columns j) s) → T (witness3 j r s) → Evidence j (rowDatabase j r) (rowDatabase j s)
-    evidence-3 r s v w x = let (t, q, n) = witness3-has j r s x in apart-3 j formed (tables-same j not1 r v q) r s v w t q n
+  pub evidence-3 : (r s : Row) → T (within (columns j) r) → T (within (columns j) s) → T (witness3 j r s) → Evidence j (rowDatabase j r) (rowDatabase j s)
+  evidence-3 r s v w x = let (t, q, n) = witness3-has j r s x in apart-3 j formed r s v w t q n
 
-    pub evidence-4 : (r s : Row) → T (within (columns j) r) → T (within (columns j) s) → T (witness4 j r s) → Evidence j (rowDatabase j r) (rowDatabase j s)
-    evidence-4 r s v w x = let (t, q, p, n) = witness4-has j r s x in apart-4 j formed (tables-same j not1 r v q) r s v w t q p n
+  pub evidence-4 : (r s : Row) → T (within (columns j) r) → T (within (columns j) s) → T (witness4 j r s) → Evidence j (rowDatabase j r) (rowDatabase j s)
+  evidence-4 r s v w x = let (t, q, p, n) = witness4-has j r s x in apart-4 j formed r s v w t q p n
 
   -- some two, where the kind isn't 0
   pub some-evidence : ¬ (kindOf j ≡ 0) → (d : Database) × (f : Database) × Evidence j d f
   unfolding kind1 kind2 kind3 kind4
   some-evidence = kind-any j
-      (λ k. let (r, w, q) = some-has (columns j) (meetsQuery j) ((T-and (tablesDiffer j) (someRow (columns j) (meetsQuery j)) k) .1) in (rowDatabase j r, reducedDatabase j r, evidence-1 k r w q))
-      (λ n k. let (r, w, x) = some-has (columns j) (witness2 j) k in (rowDatabase j r, emptyDatabase, evidence-2 n r w x))
-      (λ n k. let (r, s, v, w, x) = two-has (columns j) (witness3 j) k in (rowDatabase j r, rowDatabase j s, evidence-3 n r s v w x))
-      (λ n k. let (r, s, v, w, x) = two-has (columns j) (witness4 j) k in (rowDatabase j r, rowDatabase j s, evidence-4 n r s v w x))
+      (λ k. let (differ, m) = and-yes (tablesDiffer j) (someRow (columns j) (meetsQuery j)) k in let (r, w, q) = some-has (columns j) (meetsQuery j) m in (rowDatabase j r, reducedDatabase j r, evidence-1 differ r w q))
+      (λ k. let (r, w, x) = some-has (columns j) (witness2 j) k in (rowDatabase j r, emptyDatabase, evidence-2 r w x))
+      (λ k. let (r, s, v, w, x) = two-has (columns j) (witness3 j) k in (rowDatabase j r, rowDatabase j s, evidence-3 r s v w x))
+      (λ k. let (r, s, v, w, x) = two-has (columns j) (witness4 j) k in (rowDatabase j r, rowDatabase j s, evidence-4 r s v w x))

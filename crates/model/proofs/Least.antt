@@ -10,15 +10,16 @@ use native.Mathlib.Omega.{arith}
 use lib.ListN.{length}
 use lib.IntN.{ℤ}
 use lib.Signed.{leZ, ltZ}
+use mir.Facts.{and-yes, yes-and}
 use lib.Dec.{T, T-not, not-T}
 use Rattle.words.specs.Compare.{Op, less, atMost, equal, atLeast, more, holds}
 use Rattle.words.proofs.Order.{eqZ-is, eqZ-refl, leZ-refl, leZ-trans, leZ-ltZ-trans, leZ-antisym, nleZ-le}
-use Rattle.model.specs.Lists.{_∈_, allOf, keep}
+use Rattle.model.specs.Lists.{_∈_, allOf, filter}
 use Rattle.model.specs.Tables.{Bounds, Row, Against, column, number, Comparison, value, operand, comparisonHolds, clauseHolds, inside, within, meets}
 use Rattle.model.specs.Rows.{box, someRow}
 use Rattle.model.specs.Least.{atMostRow, isLeast, leastRow}
-use Rattle.model.proofs.Lists.{T-and, and-T, stable, keep-has, has-keep, first-some, first-none}
-use Rattle.model.proofs.Rows.{box-has, has-box, some-has, has-some, within-length}
+use Rattle.model.proofs.Lists.{pairwise-refl, pairwise-length, stable, filter-has, has-filter, find-some, find-none}
+use Rattle.model.proofs.Rows.{box-has, has-box, some-has, has-some}
 
 -- ---- the lesser of two values
 abbrev lesser : ℤ → ℤ → ℤ
@@ -90,48 +91,44 @@ meet-within [] (a ∷ r) s v w = absurd v
 meet-within (b ∷ bs) [] s v w = absurd v
 meet-within (b ∷ bs) (a ∷ r) [] v w = absurd w
 meet-within (b ∷ bs) (a ∷ r) (c ∷ s) v w =
-    let (i, x) = T-and (inside b a) (within bs r) v in
-    let (k, y) = T-and (inside b c) (within bs s) w in
-    let (al, ah) = T-and (leZ (b .lo) a) (leZ a (b .hi)) i in
-    let (cl, ch) = T-and (leZ (b .lo) c) (leZ c (b .hi)) k in
-    and-T (inside b (lesser a c)) (within bs (meet r s))
-    (and-T (leZ (b .lo) (lesser a c)) (leZ (lesser a c) (b .hi)) (lesser-least a c (b .lo) al cl) (leZ-trans (lesser a c) a (b .hi) (lesser-left a c) ah))
+    let (i, x) = and-yes (inside b a) (within bs r) v in
+    let (k, y) = and-yes (inside b c) (within bs s) w in
+    let (al, ah) = and-yes (leZ (b .lo) a) (leZ a (b .hi)) i in
+    let (cl, ch) = and-yes (leZ (b .lo) c) (leZ c (b .hi)) k in
+    yes-and (inside b (lesser a c)) (within bs (meet r s))
+    (yes-and (leZ (b .lo) (lesser a c)) (leZ (lesser a c) (b .hi)) (lesser-least a c (b .lo) al cl) (leZ-trans (lesser a c) a (b .hi) (lesser-left a c) ah))
     (meet-within bs r s x y)
 
 -- ---- in every column at most
-at-most-refl : (r : Row) → T (atMostRow r r)
-at-most-refl [] = tt
-at-most-refl (a ∷ r) = and-T (leZ a a) (atMostRow r r) (leZ-refl a) (at-most-refl r)
-
 at-most-trans : (r s t : Row) → T (atMostRow r s) → T (atMostRow s t) → T (atMostRow r t)
 at-most-trans [] [] t h k = k
 at-most-trans [] (b ∷ s) t h k = absurd h
 at-most-trans (a ∷ r) [] t h k = absurd h
 at-most-trans (a ∷ r) (b ∷ s) [] h k = absurd k
 at-most-trans (a ∷ r) (b ∷ s) (c ∷ t) h k =
-    let (i, x) = T-and (leZ a b) (atMostRow r s) h in
-    let (l, y) = T-and (leZ b c) (atMostRow s t) k in
-    and-T (leZ a c) (atMostRow r t) (leZ-trans a b c i l) (at-most-trans r s t x y)
+    let (i, x) = and-yes (leZ a b) (atMostRow r s) h in
+    let (l, y) = and-yes (leZ b c) (atMostRow s t) k in
+    yes-and (leZ a c) (atMostRow r t) (leZ-trans a b c i l) (at-most-trans r s t x y)
 
 at-most-antisym : (r s : Row) → T (atMostRow r s) → T (atMostRow s r) → r ≡ s
 at-most-antisym [] [] h k = refl
 at-most-antisym [] (b ∷ s) h k = absurd h
 at-most-antisym (a ∷ r) [] h k = absurd h
 at-most-antisym (a ∷ r) (b ∷ s) h k =
-    let (i, x) = T-and (leZ a b) (atMostRow r s) h in
-    let (l, y) = T-and (leZ b a) (atMostRow s r) k in
+    let (i, x) = and-yes (leZ a b) (atMostRow r s) h in
+    let (l, y) = and-yes (leZ b a) (atMostRow s r) k in
     rw (leZ-antisym a b i l, at-most-antisym r s x y)
 
 meet-left : (r s : Row) → length r ≡ length s → T (atMostRow (meet r s) r)
 meet-left [] s e = tt
 meet-left (a ∷ r) [] e = absurd (omega arith)
-meet-left (a ∷ r) (b ∷ s) e = and-T (leZ (lesser a b) a) (atMostRow (meet r s) r) (lesser-left a b) (meet-left r s (omega arith))
+meet-left (a ∷ r) (b ∷ s) e = yes-and (leZ (lesser a b) a) (atMostRow (meet r s) r) (lesser-left a b) (meet-left r s (omega arith))
 
 meet-right : (r s : Row) → length r ≡ length s → T (atMostRow (meet r s) s)
 meet-right [] [] e = tt
 meet-right [] (b ∷ s) e = absurd (omega arith)
 meet-right (a ∷ r) [] e = absurd (omega arith)
-meet-right (a ∷ r) (b ∷ s) e = and-T (leZ (lesser a b) b) (atMostRow (meet r s) s) (lesser-right a b) (meet-right r s (omega arith))
+meet-right (a ∷ r) (b ∷ s) e = yes-and (leZ (lesser a b) b) (atMostRow (meet r s) s) (lesser-right a b) (meet-right r s (omega arith))
 
 -- ---- the rows that meet a list are closed under it
 module _ (r s : Row) (same : length r ≡ length s) where
@@ -146,9 +143,9 @@ module _ (r s : Row) (same : length r ≡ length s) where
   unfolding clauseHolds
   meet-holds [] h i = tt
   meet-holds (k ∷ ks) h i =
-      let (h₁, h₂) = T-and (comparisonHolds r k) (allOf (comparisonHolds r) ks) h in
-      let (i₁, i₂) = T-and (comparisonHolds s k) (allOf (comparisonHolds s) ks) i in
-      and-T (comparisonHolds (meet r s) k) (allOf (comparisonHolds (meet r s)) ks) (meet-comparison k h₁ i₁) (meet-holds ks h₂ i₂)
+      let (h₁, h₂) = and-yes (comparisonHolds r k) (allOf (comparisonHolds r) ks) h in
+      let (i₁, i₂) = and-yes (comparisonHolds s k) (allOf (comparisonHolds s) ks) i in
+      yes-and (comparisonHolds (meet r s) k) (allOf (comparisonHolds (meet r s)) ks) (meet-comparison k h₁ i₁) (meet-holds ks h₂ i₂)
 
 -- ---- so there is a least
 module _ (bs : List Bounds) (ks : List Comparison) where
@@ -157,14 +154,14 @@ module _ (bs : List Bounds) (ks : List Comparison) where
   Solves r = T (within bs r) × T (clauseHolds r ks)
 
   meet-solves : (r s : Row) → Solves r → Solves s → Solves (meet r s)
-  meet-solves r s (v, h) (w, i) = (meet-within bs r s v w, meet-holds r s (within-length bs r v ∙ sym (within-length bs s w)) ks h i)
+  meet-solves r s (v, h) (w, i) = (meet-within bs r s v w, meet-holds r s (pairwise-length inside bs r v ∙ sym (pairwise-length inside bs s w)) ks h i)
 
   -- below a solution and all of a list of solutions
   lowest : (r : Row) (ss : List Row) → Solves r → ((s : Row) → s ∈ ss → Solves s) → (m : Row) × Solves m × T (atMostRow m r) × ((s : Row) → s ∈ ss → T (atMostRow m s))
-  lowest r [] h k = (r, h, at-most-refl r, λ s m. absurd (List·Memᴰ·not-nil m))
+  lowest r [] h k = (r, h, pairwise-refl leZ leZ-refl r, λ s m. absurd (List·Memᴰ·not-nil m))
   lowest r (x ∷ ss) h k =
       let hx = k x (List·Memᴰ·head refl) in
-      let e = within-length bs r (h .0) ∙ sym (within-length bs x (hx .0)) in
+      let e = pairwise-length inside bs r (h .0) ∙ sym (pairwise-length inside bs x (hx .0)) in
       let (m, hm, low, all) = lowest (meet r x) ss (meet-solves r x h hx) (λ s n. k s (List·Memᴰ·tail n)) in
       (m, hm, at-most-trans m (meet r x) r low (meet-left r x e), λ s n. split m low all e s (List·Memᴰ·cases-cons n))
     where
@@ -175,22 +172,22 @@ module _ (bs : List Bounds) (ks : List Comparison) where
   pub least-is : (r : Row) → leastRow bs ks ≡ some r → Solves r × ((s : Row) → Solves s → T (atMostRow r s))
   unfolding leastRow isLeast
   least-is r e =
-      let (m, t) = first-some (isLeast bs ks) (box bs) e in
+      let (m, t) = find-some (isLeast bs ks) (box bs) e in
       let more : Row → Bool = λ s. clauseHolds s ks && not (atMostRow r s) in
-      let (h, n) = T-and (clauseHolds r ks) (not (someRow bs more)) t in
-      ((box-has bs m, h), λ s (w, i). stable (atMostRow r s) (λ k. T-not (someRow bs more) n (has-some bs more s w (and-T (clauseHolds s ks) (not (atMostRow r s)) i k))))
+      let (h, n) = and-yes (clauseHolds r ks) (not (someRow bs more)) t in
+      ((box-has bs m, h), λ s (w, i). stable (atMostRow r s) (λ k. T-not (someRow bs more) n (has-some bs more s w (yes-and (clauseHolds s ks) (not (atMostRow r s)) i k))))
 
   pub least-found : (r : Row) → Solves r → leastRow bs ks ≡ none → ⊥
   unfolding leastRow isLeast
   least-found r h e =
       let meets : Row → Bool = λ s. clauseHolds s ks in
-      let (m, hm, low, all) = lowest r (keep meets (box bs)) h (λ s n. let (b, i) = keep-has meets (box bs) n in (box-has bs b, i)) in
+      let (m, hm, low, all) = lowest r (filter meets (box bs)) h (λ s n. let (b, i) = filter-has meets (box bs) n in (box-has bs b, i)) in
       let more : Row → Bool = λ s. clauseHolds s ks && not (atMostRow m s) in
-      first-none (isLeast bs ks) (has-box bs m (hm .0)) (and-T (clauseHolds m ks) (not (someRow bs more)) (hm .1)
+      find-none (isLeast bs ks) (has-box bs m (hm .0)) (yes-and (clauseHolds m ks) (not (someRow bs more)) (hm .1)
       (not-T (someRow bs more) (λ t.
       let (s, w, x) = some-has bs more t in
-      let (i, n) = T-and (clauseHolds s ks) (not (atMostRow m s)) x in
-      T-not (atMostRow m s) n (all s (has-keep meets (has-box bs s w) i))))) e
+      let (i, n) = and-yes (clauseHolds s ks) (not (atMostRow m s)) x in
+      T-not (atMostRow m s) n (all s (has-filter meets (has-box bs s w) i))))) e
 
   pub is-least : (r : Row) → Solves r → ((s : Row) → Solves s → T (atMostRow r s)) → leastRow bs ks ≡ some r
   is-least r h low = go (leastRow bs ks) refl

@@ -1,25 +1,16 @@
 -- Laws of tests and of the words for lists. Assumes nothing.
-use mathlib.Core.Path.{_≡_, refl, sym, _∙_}
+use mathlib.Core.Path.{_≡_, refl, sym, ap, _∙_}
 use mathlib.Core.Logic.{_⊎_, inl, inr}
-use mathlib.Core.Bool.{Bool, true, false, not, cond, _&&_, _||_}
-use mathlib.Core.List.{List, [], _∷_, List·Memᴰ·head, List·Memᴰ·tail, List·Memᴰ·not-nil, List·Memᴰ·cases-cons, List·Memᴰ·append-cases, Memᴰ·append-left, Memᴰ·append-right}
+use mathlib.Core.Bool.{Bool, true, false, not, cond, _||_}
+use mathlib.Core.List.{List, [], _∷_, _++_, List·Memᴰ·head, List·Memᴰ·tail, List·Memᴰ·not-nil, List·Memᴰ·cases-cons, List·Memᴰ·append-cases, Memᴰ·append-left, Memᴰ·append-right}
+use Prim.Native.Nat.{suc}
+use lib.ListN.{length, take, drop}
 use mathlib.Core.Option.{none, some, Option·none-ne-some, Option·some-injective}
+use mir.Facts.{and-yes, yes-and, or-yes}
 use lib.Dec.{T, T-not}
-use Rattle.model.specs.Lists.{_∈_, Same, Distinct, anyOf, allOf, keep, firstOf, once, forEach}
+use Rattle.model.specs.Lists.{pairwise, _∈_, SameSet, Distinct, anyOf, allOf, filter, find, once, flatMap}
 
 -- ---- tests
-pub T-and : (a b : Bool) → T (a && b) → T a × T b
-T-and true b t = (tt, t)
-T-and false b t = absurd t
-
-pub and-T : (a b : Bool) → T a → T b → T (a && b)
-and-T true b s t = t
-and-T false b s t = absurd s
-
-pub T-or : (a b : Bool) → T (a || b) → T a ⊎ T b
-T-or true b t = inl tt
-T-or false b t = inr t
-
 pub or-left : (a b : Bool) → T a → T (a || b)
 or-left true b t = tt
 or-left false b t = absurd t
@@ -44,7 +35,7 @@ module _ {A : Type 0} where
   -- ---- any and all
   pub any-has : (p : A → Bool) (xs : List A) → T (anyOf p xs) → (x : A) × (x ∈ xs) × T (p x)
   any-has p [] t = absurd t
-  any-has p (x ∷ xs) t = step (T-or (p x) (anyOf p xs) t) (any-has p xs)
+  any-has p (x ∷ xs) t = step (or-yes (p x) (anyOf p xs) t) (any-has p xs)
     where
       step : T (p x) ⊎ T (anyOf p xs) → (T (anyOf p xs) → (y : A) × (y ∈ xs) × T (p y)) → (y : A) × (y ∈ (x ∷ xs)) × T (p y)
       step (inl h) below = (x, List·Memᴰ·head refl, h)
@@ -55,54 +46,54 @@ module _ {A : Type 0} where
   has-any p (List·Memᴰ·tail {x = y} {xs = ys} m) t = or-right (p y) (anyOf p ys) (has-any p m t)
 
   pub all-has : (p : A → Bool) {x : A} {xs : List A} → x ∈ xs → T (allOf p xs) → T (p x)
-  all-has p (List·Memᴰ·head {x = y} {xs = ys} e) t = rw e ((T-and (p y) (allOf p ys) t) .0)
-  all-has p (List·Memᴰ·tail {x = y} {xs = ys} m) t = all-has p m ((T-and (p y) (allOf p ys) t) .1)
+  all-has p (List·Memᴰ·head {x = y} {xs = ys} e) t = rw e ((and-yes (p y) (allOf p ys) t) .0)
+  all-has p (List·Memᴰ·tail {x = y} {xs = ys} m) t = all-has p m ((and-yes (p y) (allOf p ys) t) .1)
 
   -- ---- those that pass
-  pub keep-has : (p : A → Bool) (xs : List A) {x : A} → x ∈ keep p xs → (x ∈ xs) × T (p x)
-  keep-has p [] m = absurd (List·Memᴰ·not-nil m)
-  keep-has p (y ∷ ys) {x} m = go (p y) refl m (keep-has p ys)
+  pub filter-has : (p : A → Bool) (xs : List A) {x : A} → x ∈ filter p xs → (x ∈ xs) × T (p x)
+  filter-has p [] m = absurd (List·Memᴰ·not-nil m)
+  filter-has p (y ∷ ys) {x} m = go (p y) refl m (filter-has p ys)
     where
-      split : p y ≡ true → (x ∈ keep p ys → (x ∈ ys) × T (p x)) → (x ≡ y) ⊎ (x ∈ keep p ys) → (x ∈ (y ∷ ys)) × T (p x)
+      split : p y ≡ true → (x ∈ filter p ys → (x ∈ ys) × T (p x)) → (x ≡ y) ⊎ (x ∈ filter p ys) → (x ∈ (y ∷ ys)) × T (p x)
       split e below (inl q) = (List·Memᴰ·head q, rw (q, e) tt)
       split e below (inr n) = let h = below n in (List·Memᴰ·tail (h .0), h .1)
 
-      go : (b : Bool) → p y ≡ b → x ∈ cond b (y ∷ keep p ys) (keep p ys) → (x ∈ keep p ys → (x ∈ ys) × T (p x)) → (x ∈ (y ∷ ys)) × T (p x)
+      go : (b : Bool) → p y ≡ b → x ∈ cond b (y ∷ filter p ys) (filter p ys) → (x ∈ filter p ys → (x ∈ ys) × T (p x)) → (x ∈ (y ∷ ys)) × T (p x)
       go true e n below = split e below (List·Memᴰ·cases-cons n)
       go false e n below = let h = below n in (List·Memᴰ·tail (h .0), h .1)
 
-  pub has-keep : (p : A → Bool) {x : A} {xs : List A} → x ∈ xs → T (p x) → x ∈ keep p xs
-  has-keep p (List·Memᴰ·head {x = y} {xs = ys} e) t = rw (T-is (p y) (rw e at t)) (List·Memᴰ·head e)
-  has-keep p {x} (List·Memᴰ·tail {x = y} {xs = ys} m) t = go (p y) (has-keep p m t)
+  pub has-filter : (p : A → Bool) {x : A} {xs : List A} → x ∈ xs → T (p x) → x ∈ filter p xs
+  has-filter p (List·Memᴰ·head {x = y} {xs = ys} e) t = rw (T-is (p y) (rw e at t)) (List·Memᴰ·head e)
+  has-filter p {x} (List·Memᴰ·tail {x = y} {xs = ys} m) t = go (p y) (has-filter p m t)
     where
-      go : (b : Bool) → x ∈ keep p ys → x ∈ cond b (y ∷ keep p ys) (keep p ys)
+      go : (b : Bool) → x ∈ filter p ys → x ∈ cond b (y ∷ filter p ys) (filter p ys)
       go true n = List·Memᴰ·tail n
       go false n = n
 
   -- ---- the first that passes
-  pub first-some : (p : A → Bool) (xs : List A) {x : A} → firstOf p xs ≡ some x → (x ∈ xs) × T (p x)
-  first-some p [] {x} e = absurd (Option·none-ne-some x e)
-  first-some p (y ∷ ys) {x} e = go (p y) refl e (first-some p ys)
+  pub find-some : (p : A → Bool) (xs : List A) {x : A} → find p xs ≡ some x → (x ∈ xs) × T (p x)
+  find-some p [] {x} e = absurd (Option·none-ne-some x e)
+  find-some p (y ∷ ys) {x} e = go (p y) refl e (find-some p ys)
     where
-      go : (b : Bool) → p y ≡ b → cond b (some y) (firstOf p ys) ≡ some x → (firstOf p ys ≡ some x → (x ∈ ys) × T (p x)) → (x ∈ (y ∷ ys)) × T (p x)
+      go : (b : Bool) → p y ≡ b → cond b (some y) (find p ys) ≡ some x → (find p ys ≡ some x → (x ∈ ys) × T (p x)) → (x ∈ (y ∷ ys)) × T (p x)
       go true h f below = let q : x ≡ y = sym (Option·some-injective y x f) in (List·Memᴰ·head q, rw (q, h) tt)
       go false h f below = let z = below f in (List·Memᴰ·tail (z .0), z .1)
 
-  pub first-none : (p : A → Bool) {x : A} {xs : List A} → x ∈ xs → T (p x) → firstOf p xs ≡ none → ⊥
-  first-none p (List·Memᴰ·head {x = y} {xs = ys} e) t f = Option·none-ne-some y (sym f ∙ rw (T-is (p y) (rw e at t)))
-  first-none p (List·Memᴰ·tail {x = y} {xs = ys} m) t f = go (p y) f (first-none p m t)
+  pub find-none : (p : A → Bool) {x : A} {xs : List A} → x ∈ xs → T (p x) → find p xs ≡ none → ⊥
+  find-none p (List·Memᴰ·head {x = y} {xs = ys} e) t f = Option·none-ne-some y (sym f ∙ rw (T-is (p y) (rw e at t)))
+  find-none p (List·Memᴰ·tail {x = y} {xs = ys} m) t f = go (p y) f (find-none p m t)
     where
-      go : (b : Bool) → cond b (some y) (firstOf p ys) ≡ none → (firstOf p ys ≡ none → ⊥) → ⊥
+      go : (b : Bool) → cond b (some y) (find p ys) ≡ none → (find p ys ≡ none → ⊥) → ⊥
       go true g below = Option·none-ne-some y (sym g)
       go false g below = below g
 
   -- ---- each once
-  keep-distinct : (p : A → Bool) (xs : List A) → Distinct xs → Distinct (keep p xs)
-  keep-distinct p [] h = tt
-  keep-distinct p (x ∷ xs) h = go (p x) (keep-distinct p xs (h .1))
+  filter-distinct : (p : A → Bool) (xs : List A) → Distinct xs → Distinct (filter p xs)
+  filter-distinct p [] h = tt
+  filter-distinct p (x ∷ xs) h = go (p x) (filter-distinct p xs (h .1))
     where
-      go : (b : Bool) → Distinct (keep p xs) → Distinct (cond b (x ∷ keep p xs) (keep p xs))
-      go true k = (λ m. h .0 ((keep-has p xs m) .0), k)
+      go : (b : Bool) → Distinct (filter p xs) → Distinct (cond b (x ∷ filter p xs) (filter p xs))
+      go true k = (λ m. h .0 ((filter-has p xs m) .0), k)
       go false k = k
 
   module _ (same : A → A → Bool) where
@@ -110,9 +101,9 @@ module _ {A : Type 0} where
     once-has [] m = m
     once-has (y ∷ ys) {x} m = go (List·Memᴰ·cases-cons m) (once-has ys)
       where
-        go : (x ≡ y) ⊎ (x ∈ keep (λ z. not (same y z)) (once same ys)) → (x ∈ once same ys → x ∈ ys) → x ∈ (y ∷ ys)
+        go : (x ≡ y) ⊎ (x ∈ filter (λ z. not (same y z)) (once same ys)) → (x ∈ once same ys → x ∈ ys) → x ∈ (y ∷ ys)
         go (inl e) below = List·Memᴰ·head e
-        go (inr n) below = List·Memᴰ·tail (below ((keep-has (λ z. not (same y z)) (once same ys) n) .0))
+        go (inr n) below = List·Memᴰ·tail (below ((filter-has (λ z. not (same y z)) (once same ys) n) .0))
 
     pub has-once : ((x y : A) → T (same x y) → x ≡ y) → {x : A} {xs : List A} → x ∈ xs → x ∈ once same xs
     has-once is (List·Memᴰ·head e) = List·Memᴰ·head e
@@ -120,47 +111,78 @@ module _ {A : Type 0} where
       where
         go : (b : Bool) → same y x ≡ b → x ∈ once same ys → x ∈ once same (y ∷ ys)
         go true e n = List·Memᴰ·head (sym (is y x (rw e tt)))
-        go false e n = List·Memᴰ·tail (has-keep (λ z. not (same y z)) n (rw e tt))
+        go false e n = List·Memᴰ·tail (has-filter (λ z. not (same y z)) n (rw e tt))
 
     pub once-distinct : ((x : A) → T (same x x)) → (xs : List A) → Distinct (once same xs)
     once-distinct alike [] = tt
     once-distinct alike (x ∷ xs) = (
-      λ m. T-not (same x x) ((keep-has (λ z. not (same x z)) (once same xs) m) .1) (alike x),
-      keep-distinct (λ z. not (same x z)) (once same xs) (once-distinct alike xs),
+      λ m. T-not (same x x) ((filter-has (λ z. not (same x z)) (once same xs) m) .1) (alike x),
+      filter-distinct (λ z. not (same x z)) (once same xs) (once-distinct alike xs),
     )
 
   -- ---- as sets
-  pub same-is : {xs ys : List A} → xs ≡ ys → Same xs ys
+  pub same-is : {xs ys : List A} → xs ≡ ys → SameSet xs ys
   same-is e a = (λ m. rw e at m, λ m. rw (← e) at m)
 
-  pub same-sym : {xs ys : List A} → Same xs ys → Same ys xs
+  pub same-sym : {xs ys : List A} → SameSet xs ys → SameSet ys xs
   same-sym s a = ((s a) .1, (s a) .0)
 
-  pub same-trans : {xs ys zs : List A} → Same xs ys → Same ys zs → Same xs zs
+  pub same-trans : {xs ys zs : List A} → SameSet xs ys → SameSet ys zs → SameSet xs zs
   same-trans s t a = (λ m. (t a) .0 ((s a) .0 m), λ m. (s a) .1 ((t a) .1 m))
 
   -- one element against none
-  pub one-none : {r : A} {xs ys : List A} → xs ≡ r ∷ [] → ys ≡ [] → ¬ Same xs ys
+  pub one-none : {r : A} {xs ys : List A} → xs ≡ r ∷ [] → ys ≡ [] → ¬ SameSet xs ys
   one-none {r} a b s = List·Memᴰ·not-nil (rw b at ((s r) .0 (rw a (List·Memᴰ·head refl))))
 
 -- ---- for each
 module _ {A B : Type 0} where
-  pub each-has : (xs : List A) (f : A → List B) {y : B} → y ∈ forEach xs f → (x : A) × (x ∈ xs) × (y ∈ f x)
-  each-has [] f m = absurd (List·Memᴰ·not-nil m)
-  each-has (x ∷ xs) f {y} m = split (List·Memᴰ·append-cases (f x) m) (each-has xs f)
+  pub flatMap-has : (xs : List A) (f : A → List B) {y : B} → y ∈ flatMap xs f → (x : A) × (x ∈ xs) × (y ∈ f x)
+  flatMap-has [] f m = absurd (List·Memᴰ·not-nil m)
+  flatMap-has (x ∷ xs) f {y} m = split (List·Memᴰ·append-cases (f x) m) (flatMap-has xs f)
     where
-      split : (y ∈ f x) ⊎ (y ∈ forEach xs f) → (y ∈ forEach xs f → (z : A) × (z ∈ xs) × (y ∈ f z)) → (z : A) × (z ∈ (x ∷ xs)) × (y ∈ f z)
+      split : (y ∈ f x) ⊎ (y ∈ flatMap xs f) → (y ∈ flatMap xs f → (z : A) × (z ∈ xs) × (y ∈ f z)) → (z : A) × (z ∈ (x ∷ xs)) × (y ∈ f z)
       split (inl h) below = (x, List·Memᴰ·head refl, h)
       split (inr h) below = let z = below h in (z .0, List·Memᴰ·tail (z .1), z .2)
 
-  pub has-each : (f : A → List B) {x : A} {xs : List A} {y : B} → x ∈ xs → y ∈ f x → y ∈ forEach xs f
-  has-each f (List·Memᴰ·head {x = z} {xs = zs} e) m = Memᴰ·append-left (forEach zs f) (rw e at m)
-  has-each f (List·Memᴰ·tail {x = z} {xs = zs} n) m = Memᴰ·append-right (f z) (has-each f n m)
+  pub has-flatMap : (f : A → List B) {x : A} {xs : List A} {y : B} → x ∈ xs → y ∈ f x → y ∈ flatMap xs f
+  has-flatMap f (List·Memᴰ·head {x = z} {xs = zs} e) m = Memᴰ·append-left (flatMap zs f) (rw e at m)
+  has-flatMap f (List·Memᴰ·tail {x = z} {xs = zs} n) m = Memᴰ·append-right (f z) (has-flatMap f n m)
 
-  pub each-nil : (xs : List A) → forEach {B = B} xs (λ x. []) ≡ []
-  each-nil [] = refl
-  each-nil (x ∷ xs) = each-nil xs
+  pub flatMap-nil : (xs : List A) → flatMap {B = B} xs (λ x. []) ≡ []
+  flatMap-nil [] = refl
+  flatMap-nil (x ∷ xs) = flatMap-nil xs
 
-  pub each-cong : (f g : A → List B) → ((x : A) → f x ≡ g x) → (xs : List A) → forEach xs f ≡ forEach xs g
-  each-cong f g e [] = refl
-  each-cong f g e (x ∷ xs) = rw (e x, each-cong f g e xs)
+-- ---- place by place
+module _ {A B : Type 0} (p : A → B → Bool) where
+  pub pairwise-length : (xs : List A) (ys : List B) → T (pairwise p xs ys) → length ys ≡ length xs
+  pairwise-length [] [] t = refl
+  pairwise-length [] (y ∷ ys) t = absurd t
+  pairwise-length (x ∷ xs) [] t = absurd t
+  pairwise-length (x ∷ xs) (y ∷ ys) t = ap suc (pairwise-length xs ys ((and-yes (p x y) (pairwise p xs ys) t) .1))
+
+  pub pairwise-append : (xs us : List A) (ys vs : List B) → T (pairwise p xs ys) → T (pairwise p us vs) → T (pairwise p (xs ++ us) (ys ++ vs))
+  pairwise-append [] us [] vs t h = h
+  pairwise-append [] us (y ∷ ys) vs t h = absurd t
+  pairwise-append (x ∷ xs) us [] vs t h = absurd t
+  pairwise-append (x ∷ xs) us (y ∷ ys) vs t h =
+      let (k, l) = and-yes (p x y) (pairwise p xs ys) t in
+      yes-and (p x y) (pairwise p (xs ++ us) (ys ++ vs)) k (pairwise-append xs us ys vs l h)
+
+  pub pairwise-split : (xs us : List A) (ys : List B) → T (pairwise p (xs ++ us) ys) → T (pairwise p xs (take (length xs) ys)) × T (pairwise p us (drop (length xs) ys))
+  pairwise-split [] us ys t = (tt, t)
+  pairwise-split (x ∷ xs) us [] t = absurd t
+  pairwise-split (x ∷ xs) us (y ∷ ys) t =
+      let (k, l) = and-yes (p x y) (pairwise p (xs ++ us) ys) t in
+      let (h, i) = pairwise-split xs us ys l in
+      (yes-and (p x y) (pairwise p xs (take (length xs) ys)) k h, i)
+
+module _ {A : Type 0} (p : A → A → Bool) where
+  pub pairwise-refl : ((x : A) → T (p x x)) → (xs : List A) → T (pairwise p xs xs)
+  pairwise-refl alike [] = tt
+  pairwise-refl alike (x ∷ xs) = yes-and (p x x) (pairwise p xs xs) (alike x) (pairwise-refl alike xs)
+
+  pub pairwise-is : ((x y : A) → T (p x y) → x ≡ y) → (xs ys : List A) → T (pairwise p xs ys) → xs ≡ ys
+  pairwise-is is [] [] t = refl
+  pairwise-is is [] (y ∷ ys) t = absurd t
+  pairwise-is is (x ∷ xs) [] t = absurd t
+  pairwise-is is (x ∷ xs) (y ∷ ys) t = let (h, k) = and-yes (p x y) (pairwise p xs ys) t in rw (is x y h, pairwise-is is xs ys k)

@@ -10,17 +10,20 @@ use lib.ListN.{replicate}
 use lib.Dec.{T, eqb}
 use Rattle.words.specs.Compare.{Op, less, equal, more}
 use Rattle.model.specs.Lists.{allOf}
-use Rattle.model.specs.Tables.{rowsOf, uses, Row, outputsOf, Table, meets, conditionHolds, Database, clauseHolds, Job, column, Bounds, number, Condition, Expression, Comparison}
-use Rattle.model.specs.WellFormed.{limited, expressionFormed, conditionLimited, structured}
+use Rattle.model.specs.Tables.{rowsOf, uses, Row, OutputRow, outputsOf, Table, meets, conditionHolds, clauseHolds, Job, column, Bounds, number, Condition, Expression, Comparison, TableRow}
+use Rattle.model.specs.WellFormed.{limited, expressionFormed, conditionLimited, structured, wellFormed}
 use Rattle.model.specs.Rows.{twoRows, valuesOf, someRow}
 use Rattle.model.specs.Least.{leastRow, isLeast}
 use Rattle.model.specs.Verdict.{reducedDatabase, witness2, rowDatabase, kindOf, kind4, tablesDiffer, unfixing, kind2, fixed, alikeInExtract, witness3, kind1, usesOther, listingOf, extractRows, kind3, witness4, queryRows}
-use Rattle.model.specs.Running.{standIn, runBy, fillOf, standsIn, runOf}
+use Rattle.model.specs.Running.{fillOf, standsIn, runOf, given}
 
 -- ---- two tables: columns 0 and 1, and column 2
 
+abbrev bounded : ℤ → ℤ → Bounds
+bounded a b = record { lo = a; hi = b }
+
 abbrev bits : Bounds
-bits = record { lo = pos 0; hi = pos 1 }
+bits = bounded (pos 0) (pos 1)
 
 abbrev two : List Table
 two = (bits ∷ bits ∷ []) ∷ (bits ∷ []) ∷ []
@@ -93,19 +96,20 @@ samples =
     -- four clauses of six comparisons; five clauses, seven comparisons, a number out of range
     ∷ both true true (table0 (0 ∷ []) (replicate 4 (replicate 6 (against less 0 1))))
     ∷ both true false (table0 (0 ∷ []) (replicate 5 []))
-    ∷ both true false (table0 (0 ∷ []) (replicate 7 (against less 0 1) ∷ []))
-    ∷ both true false (table0 (0 ∷ []) ((above 0 (pos 1000001) ∷ []) ∷ []))
-    ∷ both true false (table0 (0 ∷ []) ((above 0 (negsuc 1000000) ∷ []) ∷ []))
-    -- no table, a table without columns, lo above hi
+    ∷ both true false (table0 (0 ∷ []) ([] ∷ replicate 7 (against less 0 1) ∷ []))
+    ∷ both true false (table0 (0 ∷ []) ([] ∷ (against less 0 1 ∷ above 0 (pos 1000001) ∷ []) ∷ []))
+    ∷ both true false (table0 (0 ∷ []) ([] ∷ (against less 0 1 ∷ above 0 (negsuc 1000000) ∷ []) ∷ []))
+    -- no table, a table without columns, lo above hi, lo equal to hi
     ∷ tables false false []
     ∷ tables false true ((bits ∷ []) ∷ [] ∷ [])
-    ∷ tables false true ((bits ∷ record { lo = pos 1; hi = pos 0 } ∷ []) ∷ [])
-    -- four tables of four columns at the limits; five tables, 17 columns, bounds out of range
-    ∷ tables true true (replicate 4 (replicate 4 (record { lo = negsuc 999999; hi = pos 1000000 })))
+    ∷ tables false true ((bits ∷ bounded (pos 1) (pos 0) ∷ []) ∷ [])
+    ∷ tables true true ((bits ∷ bounded (pos 7) (pos 7) ∷ []) ∷ [])
+    -- four tables of four columns at the limits; five tables, 17 columns in all, bounds out of range
+    ∷ tables true true (replicate 4 (replicate 4 (bounded (negsuc 999999) (pos 1000000))))
     ∷ tables true false (replicate 5 (bits ∷ []))
-    ∷ tables true false (replicate 17 bits ∷ [])
-    ∷ tables true false ((record { lo = negsuc 1000000; hi = pos 0 } ∷ []) ∷ [])
-    ∷ tables true false ((record { lo = pos 0; hi = pos 1000001 } ∷ []) ∷ [])
+    ∷ tables true false (replicate 9 bits ∷ replicate 8 bits ∷ [])
+    ∷ tables true false ((bits ∷ []) ∷ (bits ∷ bounded (negsuc 1000000) (pos 0) ∷ []) ∷ [])
+    ∷ tables true false ((bits ∷ []) ∷ (bits ∷ bounded (pos 0) (pos 1000001) ∷ []) ∷ [])
     ∷ []
 
 right : Sample → Bool
@@ -120,9 +124,6 @@ well-formed-samples = tt
 -- column 1 is known where column 0 is 1, and free where it is 0
 abbrev partly : Condition
 partly = (is 0 (pos 1) ∷ is 1 (pos 1) ∷ []) ∷ (is 0 (pos 0) ∷ []) ∷ []
-
-abbrev bounded : ℤ → ℤ → Bounds
-bounded a b = record { lo = a; hi = b }
 
 -- arm, tool and error
 abbrev checks : List Table
@@ -149,6 +150,10 @@ verdicts =
     ∷ verdict 1 (1 ∷ 3 ∷ 0 ∷ []) (job two plain (product all))
     ∷ verdict 1 (1 ∷ 3 ∷ 3 ∷ []) (job two (product all) plain)
     ∷ verdict 0 (1 ∷ 3 ∷ 0 ∷ []) (job two plain (product []))
+    -- more than one kind applies: 1 before 2 (and 2 listed where no row meets the extract), 2 before 3, 3 before 4
+    ∷ verdict 1 (1 ∷ 2 ∷ 0 ∷ []) (job two (table0 (0 ∷ []) []) (product all))
+    ∷ verdict 2 (1 ∷ 3 ∷ 0 ∷ []) (job two (table0 (0 ∷ []) ((is 0 (pos 0) ∷ []) ∷ [])) (table0 (0 ∷ []) ((is 1 (pos 0) ∷ []) ∷ [])))
+    ∷ verdict 3 (1 ∷ 3 ∷ 3 ∷ []) (job two (product all) (over (0 ∷ 1 ∷ []) (2 ∷ []) ((is 1 (pos 0) ∷ []) ∷ [])))
     -- the query is wider, and narrower; at the highest value of bounds across zero
     ∷ verdict 2 (1 ∷ 3 ∷ 0 ∷ []) (job two (table0 (0 ∷ []) ((above 0 (pos 0) ∷ []) ∷ [])) plain)
     ∷ verdict 0 (1 ∷ 3 ∷ 0 ∷ []) (job two plain (table0 (0 ∷ []) ((above 0 (pos 0) ∷ []) ∷ [])))
@@ -169,28 +174,30 @@ listed j c [] = true
 listed j c (l ∷ ls) = eqb (listingOf j c) l && listed j (suc c) ls
 
 judged : Verdict → Bool
-unfolding kindOf kind1 kind2 kind3 kind4 tablesDiffer usesOther witness2 witness3 witness4 listed
-judged v = eqb (kindOf (v .of)) (v .kind) && listed (v .of) 0 (v .listing)
+unfolding wellFormed structured limited expressionFormed conditionLimited kindOf kind1 kind2 kind3 kind4 tablesDiffer usesOther witness2 witness3 witness4 listed
+judged v = wellFormed (v .of) && eqb (kindOf (v .of)) (v .kind) && listed (v .of) 0 (v .listing)
 
 verdict-samples : T (allOf judged verdicts)
 unfolding verdicts judged
 verdict-samples = tt
 
--- ---- the two databases of kind 1, where the extract uses a further table: no extract row on either, and a query row on the first
-
-pair : Job
-pair = job two (product all) plain
+-- ---- the two databases of kind 1: the extract's rows and the query's rows on each
 
 zeros : Row
 zeros = pos 0 ∷ pos 0 ∷ pos 0 ∷ []
 
-extract-rows : map (extractRows pair) (rowDatabase pair zeros ∷ reducedDatabase pair zeros ∷ []) ≡ [] ∷ [] ∷ []
-unfolding pair zeros extractRows rowDatabase reducedDatabase usesOther uses rowsOf meets outputsOf conditionHolds clauseHolds
-extract-rows = refl
+rows : Job → List (List (List OutputRow))
+rows j = map (λ d. extractRows j d ∷ queryRows j d ∷ []) (rowDatabase j zeros ∷ reducedDatabase j zeros ∷ [])
 
-query-rows : map (queryRows pair) (rowDatabase pair zeros ∷ reducedDatabase pair zeros ∷ []) ≡ ((pos 0 ∷ []) ∷ []) ∷ [] ∷ []
-unfolding pair zeros queryRows rowDatabase reducedDatabase usesOther uses rowsOf meets outputsOf conditionHolds clauseHolds
-query-rows = refl
+-- the extract uses a further table: no extract row on either
+extract-more : rows (job two (product all) plain) ≡ ([] ∷ ((pos 0 ∷ []) ∷ []) ∷ []) ∷ ([] ∷ [] ∷ []) ∷ []
+unfolding rows zeros extractRows queryRows rowDatabase reducedDatabase usesOther uses rowsOf meets outputsOf conditionHolds clauseHolds
+extract-more = refl
+
+-- the query uses a further table: the same extract row on both
+query-more : rows (job two plain (product all)) ≡ (((pos 0 ∷ []) ∷ []) ∷ ((pos 0 ∷ []) ∷ []) ∷ []) ∷ (((pos 0 ∷ []) ∷ []) ∷ [] ∷ []) ∷ []
+unfolding rows zeros extractRows queryRows rowDatabase reducedDatabase usesOther uses rowsOf meets outputsOf conditionHolds clauseHolds
+query-more = refl
 
 -- ---- least rows (case 14)
 
@@ -204,19 +211,19 @@ no-least = refl
 
 -- ---- the order of rows
 
--- the lowest table changes slowest, and repeats are dropped where they appear again
-ranges : Database
-ranges zero = (pos 1 ∷ pos 0 ∷ []) ∷ (pos 0 ∷ pos 0 ∷ []) ∷ (pos 1 ∷ pos 0 ∷ []) ∷ []
+-- the lowest table changes slowest, repeats are dropped where they appear again, and so is what doesn't meet the condition
+ranges : ℕ → List TableRow
+ranges zero = (pos 1 ∷ pos 0 ∷ []) ∷ (pos 0 ∷ pos 0 ∷ []) ∷ (pos 0 ∷ pos 1 ∷ []) ∷ (pos 1 ∷ pos 0 ∷ []) ∷ []
 ranges (suc t) = (pos 1 ∷ []) ∷ (pos 0 ∷ []) ∷ []
 
-fill-order : fillOf (job two (over (0 ∷ 1 ∷ []) (2 ∷ 0 ∷ []) all) plain) ranges
+fill-order : fillOf (job two (over (0 ∷ 1 ∷ []) (2 ∷ 0 ∷ []) ((is 1 (pos 0) ∷ []) ∷ [])) plain) ranges
     ≡ (pos 1 ∷ pos 1 ∷ []) ∷ (pos 0 ∷ pos 1 ∷ []) ∷ (pos 1 ∷ pos 0 ∷ []) ∷ (pos 0 ∷ pos 0 ∷ []) ∷ []
 unfolding fillOf extractRows rowsOf uses meets outputsOf clauseHolds conditionHolds ranges
 fill-order = refl
 
 -- stored rows in their order; one that gives nothing, and one that gives a row again, are passed over
 run-order : runOf (job two (table0 (0 ∷ 1 ∷ []) all) (table0 (0 ∷ []) ((above 1 (pos 0) ∷ []) ∷ [])))
-    ((pos 1 ∷ pos 0 ∷ []) ∷ (pos 1 ∷ pos 1 ∷ []) ∷ (pos 0 ∷ pos 1 ∷ []) ∷ (pos 1 ∷ pos 1 ∷ []) ∷ [])
+    ((pos 1 ∷ pos 0 ∷ []) ∷ (pos 1 ∷ pos 1 ∷ []) ∷ (pos 0 ∷ pos 1 ∷ []) ∷ (pos 1 ∷ pos 1 ∷ []) ∷ (pos 0 ∷ pos 1 ∷ []) ∷ [])
     ≡ (pos 1 ∷ []) ∷ (pos 0 ∷ []) ∷ []
-unfolding runOf runBy standIn standsIn valuesOf uses meets outputsOf clauseHolds conditionHolds
+unfolding runOf given standsIn valuesOf uses meets outputsOf clauseHolds conditionHolds
 run-order = refl

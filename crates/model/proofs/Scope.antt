@@ -5,19 +5,20 @@ use mathlib.Core.Logic.{_↔_}
 use mathlib.Core.List.{List, [], _∷_, map, Memᴰ·map, Memᴰ·of-map, Memᴰ·cast, List·Memᴰ·head}
 use Prim.Native.Nat.{ℕ, _<_}
 use lib.ListN.{length}
+use mir.Facts.{and-yes}
 use lib.Dec.{T, eqb, ltb, ltb→lt, eqb→eq, eqb-refl, T-not}
-use Rattle.model.specs.Lists.{_∈_, allOf, keep, isEmpty}
+use Rattle.model.specs.Lists.{_∈_, allOf, filter, isEmpty}
 use Rattle.model.specs.Tables.{Table, Row, TableRow, OutputRow, Against, column, number, Comparison, Clause, Condition, Expression, value, operand, comparisonHolds, clauseHolds, conditionHolds, meets, outputsOf, uses, tableOf, partOf, within, Database, WithinBounds, combinations, rowsOf, columnsOf, Job}
-use Rattle.model.specs.WellFormed.{usable, usableAgainst, noRepeats, comparisonFormed, ascending, tableFormed, expressionFormed, structured}
+use Rattle.model.specs.WellFormed.{inScope, againstInScope, noRepeats, comparisonFormed, ascending, tableFormed, expressionFormed, structured}
 use Rattle.model.specs.Verdict.{usesOther}
-use Rattle.model.proofs.Lists.{T-and, any-has, has-any, all-has, keep-has, has-keep, stable}
+use Rattle.model.proofs.Lists.{any-has, has-any, all-has, filter-has, has-filter, stable}
 use Rattle.model.proofs.Combinations.{Combines, combinations-within, combinations-combine, combine-combinations, combinations-cong, combinations-more, combinations-none, combinations-one, blend, blend-value}
 
 -- ---- what the theorems need of a well-formed expression
 pub record Formed (ts : List Table) (e : Expression) : Type 0 where
   pub some-table : T (not (isEmpty (e .used)))
   pub declared : T (allOf (λ t. ltb t (length ts)) (e .used))
-  pub outputs : T (allOf (usable ts e) (e .outputs))
+  pub outputs : T (allOf (inScope ts e) (e .outputs))
   pub condition : T (allOf (allOf (comparisonFormed ts e)) (e .condition))
 
 pub is-formed : (ts : List Table) (e : Expression) → T (expressionFormed ts e) → Formed ts e
@@ -26,13 +27,13 @@ is-formed ts e t =
     let some = not (isEmpty (e .used)) in
     let declared = allOf (λ t. ltb t (length ts)) (e .used) in
     let output = not (isEmpty (e .outputs)) in
-    let outputs = allOf (usable ts e) (e .outputs) in
-    let (t₆, k) = T-and (some && declared && ascending (e .used) && output && outputs && noRepeats (e .outputs)) (allOf (allOf (comparisonFormed ts e)) (e .condition)) t in
-    let (t₅, n) = T-and (some && declared && ascending (e .used) && output && outputs) (noRepeats (e .outputs)) t₆ in
-    let (t₄, o) = T-and (some && declared && ascending (e .used) && output) outputs t₅ in
-    let (t₃, x) = T-and (some && declared && ascending (e .used)) output t₄ in
-    let (t₂, a) = T-and (some && declared) (ascending (e .used)) t₃ in
-    let (s, d) = T-and some declared t₂ in
+    let outputs = allOf (inScope ts e) (e .outputs) in
+    let (t₆, k) = and-yes (some && declared && ascending (e .used) && output && outputs && noRepeats (e .outputs)) (allOf (allOf (comparisonFormed ts e)) (e .condition)) t in
+    let (t₅, n) = and-yes (some && declared && ascending (e .used) && output && outputs) (noRepeats (e .outputs)) t₆ in
+    let (t₄, o) = and-yes (some && declared && ascending (e .used) && output) outputs t₅ in
+    let (t₃, x) = and-yes (some && declared && ascending (e .used)) output t₄ in
+    let (t₂, a) = and-yes (some && declared) (ascending (e .used)) t₃ in
+    let (s, d) = and-yes some declared t₂ in
     record { some-table = s; declared = d; outputs = o; condition = k }
 
 -- ---- used tables
@@ -67,33 +68,33 @@ module _ (e : Expression) where
       stable (uses f t) (λ k. T-not (usesOther e f) n (has-any (λ s. not (uses f s)) m (rw (eqb→eq t x h) at k)))
 
 -- ---- two rows with the same values in every column that the expression may look at
-module _ (ts : List Table) (e : Expression) (r s : Row) (alike : (c : ℕ) → T (usable ts e c) → value r c ≡ value s c) where
-  same-operand : (a : Against) → T (usableAgainst ts e a) → operand r a ≡ operand s a
+module _ (ts : List Table) (e : Expression) (r s : Row) (alike : (c : ℕ) → T (inScope ts e c) → value r c ≡ value s c) where
+  same-operand : (a : Against) → T (againstInScope ts e a) → operand r a ≡ operand s a
   same-operand (column c) h = alike c h
   same-operand (number n) h = refl
 
   same-comparison : (k : Comparison) → T (comparisonFormed ts e k) → comparisonHolds r k ≡ comparisonHolds s k
   same-comparison k t =
-      let (h, i) = T-and (usable ts e (k .left)) (usableAgainst ts e (k .right)) t in
+      let (h, i) = and-yes (inScope ts e (k .left)) (againstInScope ts e (k .right)) t in
       rw (alike (k .left) h, same-operand (k .right) i)
 
   same-clause : (c : Clause) → T (allOf (comparisonFormed ts e) c) → clauseHolds r c ≡ clauseHolds s c
   unfolding clauseHolds
   same-clause [] t = refl
   same-clause (k ∷ c) t =
-      let (h, i) = T-and (comparisonFormed ts e k) (allOf (comparisonFormed ts e) c) t in
+      let (h, i) = and-yes (comparisonFormed ts e k) (allOf (comparisonFormed ts e) c) t in
       rw (same-comparison k h, same-clause c i)
 
   same-condition : (k : Condition) → T (allOf (allOf (comparisonFormed ts e)) k) → conditionHolds r k ≡ conditionHolds s k
   unfolding conditionHolds
   same-condition [] t = refl
   same-condition (c ∷ k) t =
-      let (h, i) = T-and (allOf (comparisonFormed ts e) c) (allOf (allOf (comparisonFormed ts e)) k) t in
+      let (h, i) = and-yes (allOf (comparisonFormed ts e) c) (allOf (allOf (comparisonFormed ts e)) k) t in
       rw (same-clause c h, same-condition k i)
 
-  same-columns : (cs : List ℕ) → T (allOf (usable ts e) cs) → map (value r) cs ≡ map (value s) cs
+  same-columns : (cs : List ℕ) → T (allOf (inScope ts e) cs) → map (value r) cs ≡ map (value s) cs
   same-columns [] t = refl
-  same-columns (c ∷ cs) t = let (h, i) = T-and (usable ts e c) (allOf (usable ts e) cs) t in rw (alike c h, same-columns cs i)
+  same-columns (c ∷ cs) t = let (h, i) = and-yes (inScope ts e c) (allOf (inScope ts e) cs) t in rw (alike c h, same-columns cs i)
 
   pub same-meets : Formed ts e → meets e r ≡ meets e s
   unfolding meets
@@ -108,13 +109,13 @@ module _ (ts : List Table) (e : Expression) (d : Database) where
   pub rows-has : {o : OutputRow} → o ∈ rowsOf ts e d → (r : Row) × (r ∈ combinations (uses e) ts d) × T (meets e r) × (outputsOf e r ≡ o)
   unfolding rowsOf
   rows-has m =
-      let (r, n, a) = Memᴰ·of-map (outputsOf e) (keep (meets e) (combinations (uses e) ts d)) m in
-      let (c, t) = keep-has (meets e) (combinations (uses e) ts d) n in
+      let (r, n, a) = Memᴰ·of-map (outputsOf e) (filter (meets e) (combinations (uses e) ts d)) m in
+      let (c, t) = filter-has (meets e) (combinations (uses e) ts d) n in
       (r, c, t, a)
 
   pub has-rows : {r : Row} → r ∈ combinations (uses e) ts d → T (meets e r) → outputsOf e r ∈ rowsOf ts e d
   unfolding rowsOf
-  has-rows m t = Memᴰ·map (outputsOf e) (has-keep (meets e) m t)
+  has-rows m t = Memᴰ·map (outputsOf e) (has-filter (meets e) m t)
 
   module _ (f : Formed ts e) where
     -- none where a used table has no row
@@ -130,9 +131,9 @@ module _ (ts : List Table) (e : Expression) (f : Formed ts e) (r : Row) (w : T (
   abbrev mixed : Row
   mixed = blend (uses e) ts r
 
-  mixed-value : (c : ℕ) → T (usable ts e c) → value mixed c ≡ value r c
+  mixed-value : (c : ℕ) → T (inScope ts e c) → value mixed c ≡ value r c
   mixed-value c t =
-      let (lt, u) = T-and (ltb c (length (columnsOf ts))) (uses e (tableOf ts c)) t in
+      let (lt, u) = and-yes (ltb c (length (columnsOf ts))) (uses e (tableOf ts c)) t in
       blend-value (uses e) ts r c w (ltb→lt c (length (columnsOf ts)) lt) u
 
   mixed-meets : meets e mixed ≡ meets e r
@@ -177,6 +178,6 @@ pub record JobFormed (j : Job) : Type 0 where
 pub job-formed : (j : Job) → T (structured j) → JobFormed j
 unfolding structured
 job-formed j t =
-    let (h, q) = T-and (allOf tableFormed (j .tables) && expressionFormed (j .tables) (j .extract)) (expressionFormed (j .tables) (j .query)) t in
-    let (p, e) = T-and (allOf tableFormed (j .tables)) (expressionFormed (j .tables) (j .extract)) h in
+    let (h, q) = and-yes (allOf tableFormed (j .tables) && expressionFormed (j .tables) (j .extract)) (expressionFormed (j .tables) (j .query)) t in
+    let (p, e) = and-yes (allOf tableFormed (j .tables)) (expressionFormed (j .tables) (j .extract)) h in
     record { tables = p; extract = is-formed (j .tables) (j .extract) e; query = is-formed (j .tables) (j .query) q }

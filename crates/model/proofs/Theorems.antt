@@ -1,6 +1,6 @@
 -- The theorems about document 01's meanings, for every well-formed job: of the two halves of well-formed they need the structure alone.
 -- Assumes nothing.
-use mathlib.Core.Path.{_≡_, refl}
+use mathlib.Core.Path.{_≡_, refl, ap}
 use mathlib.Core.Logic.{_↔_}
 use mathlib.Core.Bool.{Bool, true, false, not, cond}
 use mathlib.Core.List.{List, [], _∷_}
@@ -9,17 +9,17 @@ use Prim.Native.Nat.{ℕ, _<_}
 use lib.ListN.{length}
 use native.Mathlib.Decide.{ℕ-discrete}
 use lib.Dec.{T, eqb}
-use Rattle.model.specs.Lists.{_∈_, Same, Distinct, anyOf, allOf, ifAny}
-use Rattle.model.specs.Tables.{Bounds, Table, Row, OutputRow, Comparison, Expression, Job, clauseHolds, meets, outputsOf, uses, tableOf, within, Database, WithinBounds, rowsOf, columnsOf, Condition, value, conditionHolds, partOf}
-use Rattle.model.specs.WellFormed.{tableFormed, expressionFormed, structured, usable}
-use Rattle.model.specs.Rows.{someRow, twoRows}
+use Rattle.model.specs.Lists.{_∈_, SameSet, Distinct, anyOf, allOf, once, concat, flatMap}
+use Rattle.model.specs.Tables.{Bounds, Table, Row, OutputRow, Comparison, Expression, Job, clauseHolds, meets, outputsOf, uses, tableOf, within, Database, WithinBounds, rowsOf, columnsOf, Condition, value, conditionHolds, partOf, TableRow}
+use Rattle.model.specs.WellFormed.{tableFormed, expressionFormed, structured, inScope}
+use Rattle.model.specs.Rows.{someRow, twoRows, sameRow}
 use Rattle.model.specs.Least.{atMostRow, leastRow}
-use Rattle.model.specs.Verdict.{columns, witness2, witness3, witness4, kindOf, listingOf, extractRows, queryRows, Determined, Apart, Evidence, rowDatabase, reducedDatabase, answer, meetsExtract, stored, emptyDatabase, meetsQuery}
-use Rattle.model.specs.Running.{fillOf, RangesHold, runBy, runOf, StandIns, standIn}
+use Rattle.model.specs.Verdict.{columns, witness2, witness3, witness4, kindOf, listingOf, extractRows, queryRows, Determined, Apart, Evidence, rowDatabase, reducedDatabase, answer, meetsExtract, stored, emptyDatabase, meetsQuery, HandedOut, tablesDiffer}
+use Rattle.model.specs.Running.{fillOf, RangesHold, runOf, MayGive, given}
 use Rattle.model.proofs.Lists.{same-is, same-sym, same-trans}
 use Rattle.model.proofs.Rows.{some-has, has-some, two-has, has-two}
 use Rattle.model.proofs.Least as least
-use Rattle.model.proofs.Verdict.{kind-1, kind-more, never-met}
+use Rattle.model.proofs.Verdict.{never-met}
 use Rattle.model.proofs.Running as running
 use Rattle.model.proofs.Scope.{JobFormed, is-formed, job-formed, same-meets, same-outputs, rows-are}
 use Rattle.model.proofs.Evidence as found
@@ -44,7 +44,7 @@ empty-clause r k = refl
 
 module _ (ts : List Table) (e : Expression) (formed : T (expressionFormed ts e)) where
   -- columns of tables that the expression doesn't use play no part in it
-  pub other-columns : (r s : Row) → ((c : ℕ) → T (usable ts e c) → value r c ≡ value s c) → (meets e r ≡ meets e s) × (outputsOf e r ≡ outputsOf e s)
+  pub other-columns : (r s : Row) → ((c : ℕ) → T (inScope ts e c) → value r c ≡ value s c) → (meets e r ≡ meets e s) × (outputsOf e r ≡ outputsOf e s)
   other-columns r s alike = let f = is-formed ts e formed in (same-meets ts e r s alike f, same-outputs ts e r s alike f)
 
   -- its rows are the outputs of every row within bounds that meets the condition and whose part in each used table is a row of that table
@@ -89,38 +89,60 @@ module _ (j : Job) (formed : T (structured j)) where
   pub evidence : ¬ (kindOf j ≡ 0) → (d : Database) × (f : Database) × Evidence j d f
   evidence n = found.some-evidence j job n
 
+  -- so there is always a pair to hand out
+  pub some-pair : (d : Database) × (f : Database) × HandedOut j d f
+  some-pair = go (ℕ-discrete (kindOf j) 0)
+    where
+      go : Dec (kindOf j ≡ 0) → (d : Database) × (f : Database) × HandedOut j d f
+      go (yes k) = (emptyDatabase, emptyDatabase, record { with-0 = λ e t lt. (refl, refl); with-others = λ n. absurd (n k) })
+      go (no n) = let (d, f, e) = evidence n in (d, f, record { with-0 = λ k. absurd (n k); with-others = λ m. e })
+
   -- made of any row, or any two, that the kind speaks of
-  pub evidence-1 : kindOf j ≡ 1 → (r : Row) → T (within (columns j) r) → T (meetsQuery j r) → Evidence j (rowDatabase j r) (reducedDatabase j r)
-  evidence-1 k r w q = found.evidence-1 j job (kind-1 j k) r w q
+  pub evidence-1 : T (tablesDiffer j) → (r : Row) → T (within (columns j) r) → T (meetsQuery j r) → Evidence j (rowDatabase j r) (reducedDatabase j r)
+  evidence-1 = found.evidence-1 j job
 
-  pub evidence-2 : kindOf j ≡ 2 → (r : Row) → T (within (columns j) r) → T (witness2 j r) → Evidence j (rowDatabase j r) emptyDatabase
-  evidence-2 k r w x = found.evidence-2 j job (kind-more j k) r w x
+  pub evidence-2 : (r : Row) → T (within (columns j) r) → T (witness2 j r) → Evidence j (rowDatabase j r) emptyDatabase
+  evidence-2 = found.evidence-2 j job
 
-  pub evidence-3 : kindOf j ≡ 3 → (r s : Row) → T (within (columns j) r) → T (within (columns j) s) → T (witness3 j r s) → Evidence j (rowDatabase j r) (rowDatabase j s)
-  evidence-3 k r s v w x = found.evidence-3 j job (kind-more j k) r s v w x
+  pub evidence-3 : (r s : Row) → T (within (columns j) r) → T (within (columns j) s) → T (witness3 j r s) → Evidence j (rowDatabase j r) (rowDatabase j s)
+  evidence-3 = found.evidence-3 j job
 
-  pub evidence-4 : kindOf j ≡ 4 → (r s : Row) → T (within (columns j) r) → T (within (columns j) s) → T (witness4 j r s) → Evidence j (rowDatabase j r) (rowDatabase j s)
-  evidence-4 k r s v w x = found.evidence-4 j job (kind-more j k) r s v w x
+  pub evidence-4 : (r s : Row) → T (within (columns j) r) → T (within (columns j) s) → T (witness4 j r s) → Evidence j (rowDatabase j r) (rowDatabase j s)
+  evidence-4 = found.evidence-4 j job
 
   -- ---- 3. Where the kind is 0, running on the extract's rows lists the query's rows, each once
 
-  pub run-lists : kindOf j ≡ 0 → (d : Database) → WithinBounds (j .tables) d → (ss : List OutputRow) → Same ss (extractRows j d) → Same (runOf j ss) (queryRows j d) × Distinct (runOf j ss)
+  pub run-lists : kindOf j ≡ 0 → (d : Database) → WithinBounds (j .tables) d → (ss : List OutputRow) → SameSet ss (extractRows j d) → SameSet (runOf j ss) (queryRows j d) × Distinct (runOf j ss)
   run-lists k d w ss s = (running.run-same j job k d w ss s, running.run-distinct j ss)
 
 -- ---- 4. Filling lists the extract's rows, each once
 
-pub fill-lists : (j : Job) (d ranges : Database) → RangesHold j ranges d → Same (fillOf j ranges) (extractRows j d) × Distinct (fillOf j ranges)
+pub fill-lists : (j : Job) (d : Database) (ranges : ℕ → List TableRow) → RangesHold j ranges d → SameSet (fillOf j ranges) (extractRows j d) × Distinct (fillOf j ranges)
 fill-lists j d ranges h = (running.fill-same j d ranges h, running.fill-distinct j ranges)
 
 -- ---- 5. Where the kind is 0, a run's rows don't depend on which rows stand in for the stored ones
 
+-- each stored row gives something that it may give
+abbrev pub EachGives : Job → List OutputRow → List (List OutputRow) → Type 0
+EachGives j [] [] = Unit {0}
+EachGives j [] (g ∷ gs) = ⊥
+EachGives j (s ∷ ss) [] = ⊥
+EachGives j (s ∷ ss) (g ∷ gs) = MayGive j s g × EachGives j ss gs
+
 module _ (j : Job) (formed : T (structured j)) (computable : kindOf j ≡ 0) where
-  pub stand-ins-alike : (choice : OutputRow → Option Row) → StandIns j choice → (ss : List OutputRow) → runBy j choice ss ≡ runOf j ss
-  stand-ins-alike choice c ss = running.run-by-any j (job-formed j formed) computable choice c ss
+  same-given : (ss : List OutputRow) (gs : List (List OutputRow)) → EachGives j ss gs → concat gs ≡ flatMap ss (given j)
+  same-given [] [] m = refl
+  same-given [] (g ∷ gs) m = absurd m
+  same-given (s ∷ ss) [] m = absurd m
+  same-given (s ∷ ss) (g ∷ gs) m = rw (running.only-given j (job-formed j formed) computable s g (m .0), same-given ss gs (m .1))
+
+  pub run-by-any : (ss : List OutputRow) (gs : List (List OutputRow)) → EachGives j ss gs → once sameRow (concat gs) ≡ runOf j ss
+  unfolding runOf
+  run-by-any ss gs m = ap (once sameRow) (same-given ss gs m)
 
   -- any row that has the stored values and meets the extract's condition decides whether the stored row gives a query row, and which
-  pub one-row-decides : (s : OutputRow) (r : Row) → T (within (columns j) r) → stored j r ≡ s → T (meetsExtract j r) → ifAny (standIn j s) (answer j) ≡ cond (meetsQuery j r) (answer j r ∷ []) []
-  one-row-decides s r w a e = running.one-decides j (job-formed j formed) computable (standIn j) (running.first-stand-in j) s r w a e
+  pub one-row-decides : (s : OutputRow) (r : Row) → T (within (columns j) r) → stored j r ≡ s → T (meetsExtract j r) → given j s ≡ cond (meetsQuery j r) (answer j r ∷ []) []
+  one-row-decides s r w a e = running.given-decides j (job-formed j formed) computable s r w a e
 
 -- ---- 6. The listing's 2: its table is used, it isn't stored, and any two rows that meet the extract's condition and agree in the stored columns
 -- agree in it

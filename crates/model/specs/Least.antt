@@ -1,18 +1,15 @@
 -- Document 01, "Comparisons together": the least row that meets a list of comparisons, which may be longer than a clause.
-use mathlib.Core.Bool.{Bool, true, false, not, _&&_}
-use mathlib.Core.List.{List, [], _∷_}
+use mathlib.Core.Bool.{Bool, not, _&&_}
+use mathlib.Core.List.{List}
 use mathlib.Core.Option.{Option}
 use lib.Signed.{leZ}
-use Rattle.model.specs.Lists.{firstOf}
+use Rattle.model.specs.Lists.{find, pairwise}
 use Rattle.model.specs.Tables.{Bounds, Row, Comparison, clauseHolds}
 use Rattle.model.specs.Rows.{box, someRow}
 
 -- in every column at most
 abbrev pub atMostRow : Row → Row → Bool
-atMostRow [] [] = true
-atMostRow [] (b ∷ s) = false
-atMostRow (a ∷ r) [] = false
-atMostRow (a ∷ r) (b ∷ s) = leZ a b && atMostRow r s
+atMostRow r s = pairwise leZ r s
 
 module _ (bs : List Bounds) (ks : List Comparison) where
   -- a row that meets the list and has in every column the least value among the rows that meet it
@@ -21,4 +18,4 @@ module _ (bs : List Bounds) (ks : List Comparison) where
 
   -- that row, or none
   unfoldable pub leastRow : Option Row
-  leastRow = firstOf isLeast (box bs)
+  leastRow = find isLeast (box bs)

@@ -1,10 +1,10 @@
--- Every row within bounds: "some row" and "two rows" are searches over all of them. They say what is meant and are never computed.
-use mathlib.Core.Bool.{Bool, true, false, _&&_}
+-- Every row within bounds: "some row" and "two rows" are searches over all of them. They say what is meant; no program computes them.
+use mathlib.Core.Bool.{Bool}
 use mathlib.Core.List.{List, [], _∷_, map}
 use Prim.Native.Nat.{ℕ, zero, suc, _+_, _-_}
 use lib.IntN.{ℤ, pos, negsuc, sucℤ}
 use Rattle.words.specs.Compare.{eqZ}
-use Rattle.model.specs.Lists.{anyOf, forEach}
+use Rattle.model.specs.Lists.{anyOf, flatMap, pairwise}
 use Rattle.model.specs.Tables.{Bounds, Row}
 
 -- how many values there are from a to b
@@ -25,7 +25,7 @@ valuesOf b = upFrom (b .lo) (count (b .lo) (b .hi))
 -- every row with a value within bounds for each column
 abbrev pub box : List Bounds → List Row
 box [] = [] ∷ []
-box (b ∷ bs) = forEach (valuesOf b) (λ v. map (λ r. v ∷ r) (box bs))
+box (b ∷ bs) = flatMap (valuesOf b) (λ v. map (λ r. v ∷ r) (box bs))
 
 unfoldable pub someRow : List Bounds → (Row → Bool) → Bool
 someRow bs p = anyOf p (box bs)
@@ -35,7 +35,4 @@ twoRows bs p = someRow bs (λ r. someRow bs (p r))
 
 -- the same values
 abbrev pub sameRow : List ℤ → List ℤ → Bool
-sameRow [] [] = true
-sameRow [] (b ∷ s) = false
-sameRow (a ∷ r) [] = false
-sameRow (a ∷ r) (b ∷ s) = eqZ a b && sameRow r s
+sameRow r s = pairwise eqZ r s

@@ -1,5 +1,5 @@
 -- Document 01, "Tables, expressions, databases".
-use mathlib.Core.Bool.{Bool, true, false, cond, _&&_}
+use mathlib.Core.Bool.{Bool, cond, _&&_}
 use mathlib.Core.List.{List, [], _∷_, _++_, map}
 use Prim.Native.Nat.{ℕ, zero, suc, _-_, _<_}
 use lib.ListN.{length, getD, take, drop}
@@ -7,7 +7,7 @@ use lib.IntN.{ℤ, pos}
 use lib.Signed.{leZ}
 use lib.Dec.{T, eqb, ltb}
 use Rattle.words.specs.Compare.{Op, holds}
-use Rattle.model.specs.Lists.{_∈_, anyOf, allOf, keep, joined, forEach}
+use Rattle.model.specs.Lists.{_∈_, anyOf, allOf, filter, concat, flatMap, pairwise}
 
 -- ---- What a job declares
 
@@ -51,9 +51,9 @@ pub record Job : Type 0 where
 
 -- the bounds of every declared column: columns are numbered through all tables
 abbrev pub columnsOf : List Table → List Bounds
-columnsOf ts = joined ts
+columnsOf ts = concat ts
 
--- the table of a column
+-- the table of a column; of one that isn't declared, the number of tables
 abbrev pub tableOf : List Table → ℕ → ℕ
 tableOf [] c = zero
 tableOf (t ∷ ts) c = cond (ltb c (length t)) zero (suc (tableOf ts (c - length t)))
@@ -92,10 +92,7 @@ inside b v = leZ (b .lo) v && leZ v (b .hi)
 
 -- a value within bounds for each of some columns
 abbrev pub within : List Bounds → List ℤ → Bool
-within [] [] = true
-within [] (v ∷ r) = false
-within (b ∷ bs) [] = false
-within (b ∷ bs) (v ∷ r) = inside b v && within bs r
+within bs r = pairwise inside bs r
 
 -- ---- Conditions
 
@@ -131,9 +128,9 @@ WithinBounds ts d = (t : ℕ) → t < length ts → (r : TableRow) → r ∈ d t
 abbrev pub combinations : (ℕ → Bool) → List Table → Database → List Row
 combinations used [] d = [] ∷ []
 combinations used (b ∷ bs) d =
-    forEach (cond (used zero) (d zero) (map (λ c. c .lo) b ∷ [])) (λ x.
+    flatMap (cond (used zero) (d zero) (map (λ c. c .lo) b ∷ [])) (λ x.
     map (λ r. x ++ r) (combinations (λ t. used (suc t)) bs (λ t. d (suc t))))
 
 -- an expression's rows: the outputs of every combination that meets the condition
 unfoldable pub rowsOf : List Table → Expression → Database → List OutputRow
-rowsOf ts e d = map (outputsOf e) (keep (meets e) (combinations (uses e) ts d))
+rowsOf ts e d = map (outputsOf e) (filter (meets e) (combinations (uses e) ts d))

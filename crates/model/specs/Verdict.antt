@@ -1,12 +1,13 @@
 -- Document 01, "The verdict": kinds 0 to 4, the listing of the columns, and the two databases.
 -- "Row" here is a value within bounds for every declared column.
+use mathlib.Core.Path.{_≡_}
 use mathlib.Core.Bool.{Bool, not, cond, _&&_, _||_}
 use mathlib.Core.List.{List, [], _∷_}
 use Prim.Native.Nat.{ℕ, _<_, _≤_}
 use lib.ListN.{length}
 use lib.Dec.{eqb}
 use Rattle.words.specs.Compare.{eqZ}
-use Rattle.model.specs.Lists.{Same, anyOf}
+use Rattle.model.specs.Lists.{SameSet, anyOf}
 use Rattle.model.specs.Tables.{Bounds, Row, OutputRow, Expression, Job, Database, WithinBounds, columnsOf, value, uses, meets, outputsOf, tableOf, partOf, rowsOf}
 use Rattle.model.specs.Rows.{someRow, twoRows, sameRow}
 
@@ -103,8 +104,8 @@ module _ (j : Job) where
   pub record Apart (d f : Database) : Type 0 where
     pub first-within : WithinBounds (j .tables) d
     pub second-within : WithinBounds (j .tables) f
-    pub same-extract : Same (extractRows d) (extractRows f)
-    pub other-query : ¬ Same (queryRows d) (queryRows f)
+    pub same-extract : SameSet (extractRows d) (extractRows f)
+    pub other-query : ¬ SameSet (queryRows d) (queryRows f)
 
   abbrev pub AtMostOneRow : Database → Type 0
   AtMostOneRow d = (t : ℕ) → t < length (j .tables) → length (d t) ≤ 1
@@ -115,7 +116,12 @@ module _ (j : Job) where
     pub first-small : AtMostOneRow d
     pub second-small : AtMostOneRow f
 
-  -- ---- Two that will do, made of the row or rows that the kind speaks of. Any others will do as well.
+  -- with kind 0 both are empty
+  pub record HandedOut (d f : Database) : Type 0 where
+    pub with-0 : kindOf ≡ 0 → (t : ℕ) → t < length (j .tables) → (d t ≡ []) × (f t ≡ [])
+    pub with-others : ¬ (kindOf ≡ 0) → Evidence d f
+
+  -- ---- A pair that will do, made of the row or rows that the kind speaks of. Any other pair that is `Evidence` will do as well.
 
   -- kind 1's and 2's first, and both of kinds 3 and 4: a row in each table that the query uses, none in the others
   unfoldable pub rowDatabase : Row → Database
@@ -125,10 +131,10 @@ module _ (j : Job) where
   unfoldable pub reducedDatabase : Row → Database
   reducedDatabase r t = cond (usesOther (j .query) (j .extract) && uses (j .extract) t) (rowDatabase r t) []
 
--- kind 2's second
+-- kind 2's second, and both of kind 0
 abbrev pub emptyDatabase : Database
 emptyDatabase t = []
 
 -- any two databases with the same extract rows have the same query rows
 abbrev pub Determined : Job → Type 0
-Determined j = (d f : Database) → WithinBounds (j .tables) d → WithinBounds (j .tables) f → Same (extractRows j d) (extractRows j f) → Same (queryRows j d) (queryRows j f)
+Determined j = (d f : Database) → WithinBounds (j .tables) d → WithinBounds (j .tables) f → SameSet (extractRows j d) (extractRows j f) → SameSet (queryRows j d) (queryRows j f)

@@ -25,20 +25,20 @@ noRepeats [] = true
 noRepeats (a ∷ bs) = not (anyOf (eqb a) bs) && noRepeats bs
 
 -- a declared column of a table that the expression uses
-abbrev pub usable : List Table → Expression → ℕ → Bool
-usable ts e c = ltb c (length (columnsOf ts)) && uses e (tableOf ts c)
+abbrev pub inScope : List Table → Expression → ℕ → Bool
+inScope ts e c = ltb c (length (columnsOf ts)) && uses e (tableOf ts c)
 
-abbrev pub usableAgainst : List Table → Expression → Against → Bool
-usableAgainst ts e (column c) = usable ts e c
-usableAgainst ts e (number n) = true
+abbrev pub againstInScope : List Table → Expression → Against → Bool
+againstInScope ts e (column c) = inScope ts e c
+againstInScope ts e (number n) = true
 
 abbrev pub comparisonFormed : List Table → Expression → Comparison → Bool
-comparisonFormed ts e k = usable ts e (k .left) && usableAgainst ts e (k .right)
+comparisonFormed ts e k = inScope ts e (k .left) && againstInScope ts e (k .right)
 
 unfoldable pub expressionFormed : List Table → Expression → Bool
 expressionFormed ts e =
     not (isEmpty (e .used)) && allOf (λ t. ltb t (length ts)) (e .used) && ascending (e .used)
-    && not (isEmpty (e .outputs)) && allOf (usable ts e) (e .outputs) && noRepeats (e .outputs)
+    && not (isEmpty (e .outputs)) && allOf (inScope ts e) (e .outputs) && noRepeats (e .outputs)
     && allOf (allOf (comparisonFormed ts e)) (e .condition)
 
 unfoldable pub structured : Job → Bool

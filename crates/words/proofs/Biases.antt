@@ -7,10 +7,15 @@ use lib.IntN.{ℤ, pos, negsuc, _+ℤ_}
 use lib.Signed.{leZ, ltZ, mag}
 use borrow.Author.Tests.{lt-ltb, le-ltb}
 use Rattle.words.specs.Word.{signBit}
-use Rattle.words.specs.Bias.{FromBias, biased, unbiased, bias}
+use Rattle.words.specs.Bias.{biased, unbiased, bias}
 use Rattle.words.specs.Compare.{eqZ}
 use Rattle.words.proofs.Tests.{same-test, by-less}
 use Rattle.words.proofs.Order.{eqZ-by}
+
+-- a value from -k on
+abbrev pub FromBias : ℕ → ℤ → Type 0
+FromBias k (pos n) = Unit {0}
+FromBias k (negsuc n) = n < k
 
 -- ---- there and back
 module _ (k : ℕ) where

@@ -3,3 +3,4 @@ pub mod Order
 pub mod Words
 pub mod Biases
 pub mod Steps
+pub mod Samples
