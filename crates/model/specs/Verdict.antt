@@ -110,13 +110,13 @@ module _ (j : Job) where
   abbrev pub AtMostOneRow : Database → Type 0
   AtMostOneRow d = (t : ℕ) → t < length (j .tables) → length (d t) ≤ 1
 
-  -- what is handed out with kinds 1 to 4
+  -- two databases that show that the query isn't computable
   pub record Evidence (d f : Database) : Type 0 where
     pub apart : Apart d f
     pub first-small : AtMostOneRow d
     pub second-small : AtMostOneRow f
 
-  -- with kind 0 both are empty
+  -- what is handed out: with kind 0 two empty databases, with the other kinds evidence
   pub record HandedOut (d f : Database) : Type 0 where
     pub with-0 : kindOf ≡ 0 → (t : ℕ) → t < length (j .tables) → (d t ≡ []) × (f t ≡ [])
     pub with-others : ¬ (kindOf ≡ 0) → Evidence d f
