@@ -21,12 +21,15 @@ module _ (j : Job) (formed : JobFormed j) (kind0 : kindOf j ≡ 0) where
   module _ (r : Row) (w : T (within (columns j) r)) (q : T (meetsQuery j r)) where
     -- the used tables are the same, and so are the combinations
     pub same-combinations : (d : Database) → combinations (uses (j .extract)) (j .tables) d ≡ combinations (uses (j .query)) (j .tables) d
-    same-combinations d = combinations-cong (uses (j .extract)) (uses (j .query)) (j .tables) d d (λ t lt. same-uses j (tables-same j (none-applies .not1) r w q) t) (λ t lt u. refl)
+    same-combinations d =
+        let same = same-uses j (tables-same j (none-applies .not1) r w q) in
+        combinations-cong (uses (j .extract)) (uses (j .query)) (j .tables) d d (λ t lt. same t) (λ t lt u. refl)
 
     -- it meets the extract's too
     pub extract-met : T (meetsExtract j r)
     unfolding kind2 witness2
-    extract-met = stable (meetsExtract j r) (λ x. T-not (kind2 j) (none-applies .not2) (has-some (columns j) (witness2 j) r w (yes-and (meetsQuery j r) (not (meetsExtract j r)) q x)))
+    extract-met = stable (meetsExtract j r) (λ x.
+        T-not (kind2 j) (none-applies .not2) (has-some (columns j) (witness2 j) r w (yes-and (meetsQuery j r) (not (meetsExtract j r)) q x)))
 
   -- two rows that meet the extract's condition and agree in the stored columns, one of which meets the query's
   module _ (r s : Row) (v : T (within (columns j) r)) (w : T (within (columns j) s)) (t : Alike j r s) (qr : T (meetsQuery j r)) where
@@ -36,4 +39,5 @@ module _ (j : Job) (formed : JobFormed j) (kind0 : kindOf j ≡ 0) where
 
     pub same-answer : answer j r ≡ answer j s
     unfolding kind4
-    same-answer = same-row-is (answer j r) (answer j s) (stable (sameRow (answer j r) (answer j s)) (λ n. T-not (kind4 j) (none-applies .not4) (has-two (columns j) (witness4 j) r s v w (has-witness4 j r s t qr query-met n))))
+    same-answer = same-row-is (answer j r) (answer j s) (stable (sameRow (answer j r) (answer j s)) (λ n.
+        T-not (kind4 j) (none-applies .not4) (has-two (columns j) (witness4 j) r s v w (has-witness4 j r s t qr query-met n))))

@@ -9,6 +9,7 @@ use native.Mathlib.Omega.{arith}
 use lib.ListN.{length, getD}
 use mir.Facts.{and-yes, or-yes}
 use lib.Dec.{T, T-not}
+use Rattle.words.specs.Compare.{more}
 use Rattle.model.specs.Lists.{_∈_, SameSet}
 use Rattle.model.specs.Tables.{Row, OutputRow, Job, Database, WithinBounds, within, uses, partOf, rowsOf}
 use Rattle.model.specs.Rows.{someRow, sameRow}
@@ -99,13 +100,19 @@ module _ (j : Job) (formed : JobFormed j) where
     query-one e = rw (← e) (rows-one (j .tables) (j .query) (formed .query) r w (rowDatabase j r) (λ t lt u. one-used t u))
 
     -- none where the extract uses a table that the query doesn't
-    extract-one : {b : Bool} → meetsExtract j r ≡ b → extractRows j (rowDatabase j r) ≡ cond (usesOther (j .extract) (j .query)) [] (cond b (stored j r ∷ []) [])
+    extract-one : {b : Bool} → meetsExtract j r ≡ b
+        → extractRows j (rowDatabase j r) ≡ cond (usesOther (j .extract) (j .query)) [] (cond b (stored j r ∷ []) [])
     unfolding extractRows
     extract-one {b} e = go (usesOther (j .extract) (j .query)) refl
       where
-        go : (o : Bool) → usesOther (j .extract) (j .query) ≡ o → rowsOf (j .tables) (j .extract) (rowDatabase j r) ≡ cond o [] (cond b (stored j r ∷ []) [])
-        go true f = let (t, u, n) = other-used (j .extract) (j .query) (rw f tt) in rows-none (j .tables) (j .extract) (rowDatabase j r) (formed .extract) t u (one-unused t n)
-        go false f = rw (← e) (rows-one (j .tables) (j .extract) (formed .extract) r w (rowDatabase j r) (λ t lt u. one-used t (none-other (j .extract) (j .query) (rw f tt) t u)))
+        go : (o : Bool) → usesOther (j .extract) (j .query) ≡ o
+            → rowsOf (j .tables) (j .extract) (rowDatabase j r) ≡ cond o [] (cond b (stored j r ∷ []) [])
+        go true f =
+            let (t, u, n) = other-used (j .extract) (j .query) (rw f tt) in
+            rows-none (j .tables) (j .extract) (rowDatabase j r) (formed .extract) t u (one-unused t n)
+        go false f =
+            let both = none-other (j .extract) (j .query) (rw f tt) in
+            rw (← e) (rows-one (j .tables) (j .extract) (formed .extract) r w (rowDatabase j r) (λ t lt u. one-used t (both t u)))
 
     -- ---- kind 1
     module _ (differ : T (tablesDiffer j)) (q : T (meetsQuery j r)) where
@@ -114,15 +121,19 @@ module _ (j : Job) (formed : JobFormed j) where
       unfolding extractRows queryRows reducedDatabase
       query-more o =
           let (t, u, n) = other-used (j .query) (j .extract) o in
+          let more = T-is (usesOther (j .query) (j .extract)) o in
+          let kept : (s : ℕ) → T (uses (j .extract) s) → rowDatabase j r s ≡ reducedDatabase j r s = λ s v. rw (more, T-is (uses (j .extract) s) v) in
+          let gone : reducedDatabase j r t ≡ [] = rw (more, not-is (uses (j .extract) t) n) in
           record {
             first-within = one-within;
             second-within = less-within;
-            same-extract = same-is (rows-cong (j .tables) (j .extract) (rowDatabase j r) (reducedDatabase j r) (λ s ls v. rw (T-is (usesOther (j .query) (j .extract)) o, T-is (uses (j .extract) s) v)));
-            other-query = one-none (query-one (T-is (meetsQuery j r) q)) (rows-none (j .tables) (j .query) (reducedDatabase j r) (formed .query) t u (rw (T-is (usesOther (j .query) (j .extract)) o, not-is (uses (j .extract) t) n)));
+            same-extract = same-is (rows-cong (j .tables) (j .extract) (rowDatabase j r) (reducedDatabase j r) (λ s lt v. kept s v));
+            other-query = one-none (query-one (T-is (meetsQuery j r) q)) (rows-none (j .tables) (j .query) (reducedDatabase j r) (formed .query) t u gone);
           }
 
       -- only the extract uses more: neither database has a row there
-      extract-more : T (not (usesOther (j .query) (j .extract))) → T (usesOther (j .extract) (j .query)) → Apart j (rowDatabase j r) (reducedDatabase j r)
+      extract-more : T (not (usesOther (j .query) (j .extract))) → T (usesOther (j .extract) (j .query))
+          → Apart j (rowDatabase j r) (reducedDatabase j r)
       unfolding extractRows queryRows reducedDatabase
       extract-more none-more o =
           let (t, u, n) = other-used (j .extract) (j .query) o in
@@ -130,23 +141,29 @@ module _ (j : Job) (formed : JobFormed j) where
           record {
             first-within = one-within;
             second-within = less-within;
-            same-extract = same-is (rows-none (j .tables) (j .extract) (rowDatabase j r) (formed .extract) t u (one-unused t n) ∙ sym (rows-empty (j .tables) (j .extract) (reducedDatabase j r) (formed .extract) bare));
+            same-extract = same-is (
+                rows-none (j .tables) (j .extract) (rowDatabase j r) (formed .extract) t u (one-unused t n)
+                ∙ sym (rows-empty (j .tables) (j .extract) (reducedDatabase j r) (formed .extract) bare));
             other-query = one-none (query-one (T-is (meetsQuery j r) q)) (rows-empty (j .tables) (j .query) (reducedDatabase j r) (formed .query) bare);
           }
 
-      apart-1 : Evidence j (rowDatabase j r) (reducedDatabase j r)
+      pub evidence-1 : Evidence j (rowDatabase j r) (reducedDatabase j r)
       unfolding tablesDiffer
-      apart-1 = record { apart = go (usesOther (j .query) (j .extract)) refl (or-yes (usesOther (j .extract) (j .query)) (usesOther (j .query) (j .extract)) differ); first-small = one-small; second-small = less-small }
+      evidence-1 =
+          let either = or-yes (usesOther (j .extract) (j .query)) (usesOther (j .query) (j .extract)) differ in
+          record { apart = go (usesOther (j .query) (j .extract)) refl either; first-small = one-small; second-small = less-small }
         where
-          go : (b : Bool) → usesOther (j .query) (j .extract) ≡ b → T (usesOther (j .extract) (j .query)) ⊎ T (usesOther (j .query) (j .extract)) → Apart j (rowDatabase j r) (reducedDatabase j r)
+          go : (b : Bool) → usesOther (j .query) (j .extract) ≡ b
+              → T (usesOther (j .extract) (j .query)) ⊎ T (usesOther (j .query) (j .extract))
+              → Apart j (rowDatabase j r) (reducedDatabase j r)
           go true e x = query-more (rw e tt)
           go false e (inl x) = extract-more (rw e tt) x
           go false e (inr x) = query-more x
 
     -- ---- kind 2
-    apart-2 : T (witness2 j r) → Evidence j (rowDatabase j r) emptyDatabase
+    pub evidence-2 : T (witness2 j r) → Evidence j (rowDatabase j r) emptyDatabase
     unfolding witness2
-    apart-2 x =
+    evidence-2 x =
         let (q, e) = and-yes (meetsQuery j r) (not (meetsExtract j r)) x in
         record {
           apart = record {
@@ -166,39 +183,37 @@ module _ (j : Job) (formed : JobFormed j) where
       apart = record {
         first-within = one-within r v;
         second-within = one-within s w;
-        same-extract = same-is (extract-one r v (T-is (meetsExtract j r) (t .first-extract)) ∙ ap (λ (x : OutputRow). cond (usesOther (j .extract) (j .query)) [] (x ∷ [])) (t .agreed) ∙ sym (extract-one s w (T-is (meetsExtract j s) (t .second-extract))));
+        same-extract = same-is (
+            extract-one r v (T-is (meetsExtract j r) (t .first-extract))
+            ∙ ap (λ (x : OutputRow). cond (usesOther (j .extract) (j .query)) [] (x ∷ [])) (t .agreed)
+            ∙ sym (extract-one s w (T-is (meetsExtract j s) (t .second-extract))));
         other-query = n;
       };
       first-small = one-small r v;
       second-small = one-small s w;
     }
 
-    apart-3 : Alike j r s → T (meetsQuery j r) → T (not (meetsQuery j s)) → Evidence j (rowDatabase j r) (rowDatabase j s)
-    apart-3 t q n = two t (one-none (query-one r v (T-is (meetsQuery j r) q)) (query-one s w (not-is (meetsQuery j s) n)))
+    pub evidence-3 : T (witness3 j r s) → Evidence j (rowDatabase j r) (rowDatabase j s)
+    evidence-3 x =
+        let (t, q, n) = witness3-has j r s x in
+        two t (one-none (query-one r v (T-is (meetsQuery j r) q)) (query-one s w (not-is (meetsQuery j s) n)))
 
-    apart-4 : Alike j r s → T (meetsQuery j r) → T (meetsQuery j s) → T (not (sameRow (answer j r) (answer j s))) → Evidence j (rowDatabase j r) (rowDatabase j s)
-    apart-4 t qr qs n = two t (λ m. T-not (sameRow (answer j r) (answer j s)) n
-        (is-same-row (List·Memᴰ·eq-of-singleton (rw (query-one s w (T-is (meetsQuery j s) qs)) at ((m (answer j r)) .0 (rw (query-one r v (T-is (meetsQuery j r) qr)) (List·Memᴰ·head refl)))))))
-
--- ---- the databases, by kind
-module _ (j : Job) (formed : JobFormed j) where
-  pub evidence-1 : T (tablesDiffer j) → (r : Row) → T (within (columns j) r) → T (meetsQuery j r) → Evidence j (rowDatabase j r) (reducedDatabase j r)
-  evidence-1 differ r w q = apart-1 j formed r w differ q
-
-  pub evidence-2 : (r : Row) → T (within (columns j) r) → T (witness2 j r) → Evidence j (rowDatabase j r) emptyDatabase
-  evidence-2 r w x = apart-2 j formed r w x
-
-  pub evidence-3 : (r s : Row) → T (within (columns j) r) → T (within (columns j) s) → T (witness3 j r s) → Evidence j (rowDatabase j r) (rowDatabase j s)
-  evidence-3 r s v w x = let (t, q, n) = witness3-has j r s x in apart-3 j formed r s v w t q n
-
-  pub evidence-4 : (r s : Row) → T (within (columns j) r) → T (within (columns j) s) → T (witness4 j r s) → Evidence j (rowDatabase j r) (rowDatabase j s)
-  evidence-4 r s v w x = let (t, q, p, n) = witness4-has j r s x in apart-4 j formed r s v w t q p n
+    pub evidence-4 : T (witness4 j r s) → Evidence j (rowDatabase j r) (rowDatabase j s)
+    evidence-4 x =
+        let (t, qr, qs, n) = witness4-has j r s x in
+        two t (λ same.
+        let first : answer j r ∈ queryRows j (rowDatabase j r) = rw (query-one r v (T-is (meetsQuery j r) qr)) (List·Memᴰ·head refl) in
+        let second = rw (query-one s w (T-is (meetsQuery j s) qs)) at ((same (answer j r)) .0 first) in
+        T-not (sameRow (answer j r) (answer j s)) n (is-same-row (List·Memᴰ·eq-of-singleton second)))
 
   -- some two, where the kind isn't 0
   pub some-evidence : ¬ (kindOf j ≡ 0) → (d : Database) × (f : Database) × Evidence j d f
   unfolding kind1 kind2 kind3 kind4
   some-evidence = kind-any j
-      (λ k. let (differ, m) = and-yes (tablesDiffer j) (someRow (columns j) (meetsQuery j)) k in let (r, w, q) = some-has (columns j) (meetsQuery j) m in (rowDatabase j r, reducedDatabase j r, evidence-1 differ r w q))
+      (λ k.
+      let (differ, m) = and-yes (tablesDiffer j) (someRow (columns j) (meetsQuery j)) k in
+      let (r, w, q) = some-has (columns j) (meetsQuery j) m in
+      (rowDatabase j r, reducedDatabase j r, evidence-1 r w differ q))
       (λ k. let (r, w, x) = some-has (columns j) (witness2 j) k in (rowDatabase j r, emptyDatabase, evidence-2 r w x))
       (λ k. let (r, s, v, w, x) = two-has (columns j) (witness3 j) k in (rowDatabase j r, rowDatabase j s, evidence-3 r s v w x))
       (λ k. let (r, s, v, w, x) = two-has (columns j) (witness4 j) k in (rowDatabase j r, rowDatabase j s, evidence-4 r s v w x))

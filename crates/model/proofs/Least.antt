@@ -137,7 +137,9 @@ module _ (r s : Row) (same : length r ≡ length s) where
   meet-operand (number n) = sym (lesser-same n)
 
   meet-comparison : (k : Comparison) → T (comparisonHolds r k) → T (comparisonHolds s k) → T (comparisonHolds (meet r s) k)
-  meet-comparison k h i = rw (meet-value r s same (k .left), meet-operand (k .right)) (lesser-holds (k .op) (value r (k .left)) (operand r (k .right)) (value s (k .left)) (operand s (k .right)) h i)
+  meet-comparison k h i =
+      rw (meet-value r s same (k .left), meet-operand (k .right))
+      (lesser-holds (k .op) (value r (k .left)) (operand r (k .right)) (value s (k .left)) (operand s (k .right)) h i)
 
   meet-holds : (ks : List Comparison) → T (clauseHolds r ks) → T (clauseHolds s ks) → T (clauseHolds (meet r s) ks)
   unfolding clauseHolds
@@ -157,7 +159,8 @@ module _ (bs : List Bounds) (ks : List Comparison) where
   meet-solves r s (v, h) (w, i) = (meet-within bs r s v w, meet-holds r s (pairwise-length inside bs r v ∙ sym (pairwise-length inside bs s w)) ks h i)
 
   -- below a solution and all of a list of solutions
-  lowest : (r : Row) (ss : List Row) → Solves r → ((s : Row) → s ∈ ss → Solves s) → (m : Row) × Solves m × T (atMostRow m r) × ((s : Row) → s ∈ ss → T (atMostRow m s))
+  lowest : (r : Row) (ss : List Row) → Solves r → ((s : Row) → s ∈ ss → Solves s)
+      → (m : Row) × Solves m × T (atMostRow m r) × ((s : Row) → s ∈ ss → T (atMostRow m s))
   lowest r [] h k = (r, h, pairwise-refl leZ leZ-refl r, λ s m. absurd (List·Memᴰ·not-nil m))
   lowest r (x ∷ ss) h k =
       let hx = k x (List·Memᴰ·head refl) in
@@ -165,7 +168,8 @@ module _ (bs : List Bounds) (ks : List Comparison) where
       let (m, hm, low, all) = lowest (meet r x) ss (meet-solves r x h hx) (λ s n. k s (List·Memᴰ·tail n)) in
       (m, hm, at-most-trans m (meet r x) r low (meet-left r x e), λ s n. split m low all e s (List·Memᴰ·cases-cons n))
     where
-      split : (m : Row) → T (atMostRow m (meet r x)) → ((s : Row) → s ∈ ss → T (atMostRow m s)) → length r ≡ length x → (s : Row) → (s ≡ x) ⊎ (s ∈ ss) → T (atMostRow m s)
+      split : (m : Row) → T (atMostRow m (meet r x)) → ((s : Row) → s ∈ ss → T (atMostRow m s)) → length r ≡ length x → (s : Row)
+          → (s ≡ x) ⊎ (s ∈ ss) → T (atMostRow m s)
       split m low all e s (inl q) = rw q (at-most-trans m (meet r x) x low (meet-right r x e))
       split m low all e s (inr n) = all s n
 
@@ -175,7 +179,9 @@ module _ (bs : List Bounds) (ks : List Comparison) where
       let (m, t) = find-some (isLeast bs ks) (box bs) e in
       let more : Row → Bool = λ s. clauseHolds s ks && not (atMostRow r s) in
       let (h, n) = and-yes (clauseHolds r ks) (not (someRow bs more)) t in
-      ((box-has bs m, h), λ s (w, i). stable (atMostRow r s) (λ k. T-not (someRow bs more) n (has-some bs more s w (yes-and (clauseHolds s ks) (not (atMostRow r s)) i k))))
+      let low : (s : Row) → Solves s → T (atMostRow r s) = λ s (w, i). stable (atMostRow r s) (λ k.
+      T-not (someRow bs more) n (has-some bs more s w (yes-and (clauseHolds s ks) (not (atMostRow r s)) i k))) in
+      ((box-has bs m, h), low)
 
   pub least-found : (r : Row) → Solves r → leastRow bs ks ≡ none → ⊥
   unfolding leastRow isLeast

@@ -13,18 +13,20 @@ use Rattle.model.specs.Rows.{twoRows}
 use Rattle.model.specs.Verdict.{columns, fixed, listingOf, unfixing, meetsExtract, stored}
 use Rattle.model.proofs.Lists.{stable}
 use Rattle.model.proofs.Rows.{two-has, has-two}
-use Rattle.model.proofs.Verdict.{unfixing-has, has-unfixing}
+use Rattle.model.proofs.Verdict.{Alike, unfixing-has, has-unfixing}
 
 -- any two rows within bounds that meet the extract's condition and agree in the stored columns agree in column c
 abbrev pub Fixed : Job → ℕ → Type 0
-Fixed j c = (r s : Row) → T (within (columns j) r) → T (within (columns j) s) → T (meetsExtract j r) → T (meetsExtract j s) → stored j r ≡ stored j s → value r c ≡ value s c
+Fixed j c = (r s : Row) → T (within (columns j) r) → T (within (columns j) s) → T (meetsExtract j r) → T (meetsExtract j s)
+    → stored j r ≡ stored j s → value r c ≡ value s c
 
 module _ (j : Job) (c : ℕ) where
   pub fixed-is : T (fixed j c) ↔ Fixed j c
   unfolding fixed
   fixed-is = (
     λ t r s v w er es a. eqZ-is (value r c) (value s c) (stable (eqZ (value r c) (value s c)) (λ n.
-        T-not (twoRows (columns j) (unfixing j c)) t (has-two (columns j) (unfixing j c) r s v w (has-unfixing j r s c (record { first-extract = er; second-extract = es; agreed = a }) n)))),
+        let alike : Alike j r s = record { first-extract = er; second-extract = es; agreed = a } in
+        T-not (twoRows (columns j) (unfixing j c)) t (has-two (columns j) (unfixing j c) r s v w (has-unfixing j r s c alike n)))),
     λ f. not-T (twoRows (columns j) (unfixing j c)) (λ t.
         let (r, s, v, w, x) = two-has (columns j) (unfixing j c) t in
         let (k, n) = unfixing-has j r s c x in

@@ -168,7 +168,8 @@ module _ {A B : Type 0} (p : A → B → Bool) where
       let (k, l) = and-yes (p x y) (pairwise p xs ys) t in
       yes-and (p x y) (pairwise p (xs ++ us) (ys ++ vs)) k (pairwise-append xs us ys vs l h)
 
-  pub pairwise-split : (xs us : List A) (ys : List B) → T (pairwise p (xs ++ us) ys) → T (pairwise p xs (take (length xs) ys)) × T (pairwise p us (drop (length xs) ys))
+  pub pairwise-split : (xs us : List A) (ys : List B) → T (pairwise p (xs ++ us) ys)
+      → T (pairwise p xs (take (length xs) ys)) × T (pairwise p us (drop (length xs) ys))
   pairwise-split [] us ys t = (tt, t)
   pairwise-split (x ∷ xs) us [] t = absurd t
   pairwise-split (x ∷ xs) us (y ∷ ys) t =

@@ -48,7 +48,8 @@ given-may j s = go (find (standsIn j s) (box (columns j))) refl
 module _ (j : Job) (formed : JobFormed j) (kind0 : kindOf j ≡ 0) where
   -- Any row that has the stored values and meets the extract's condition decides: where it meets the query's, the stored row may give its outputs
   -- and no others, and otherwise nothing
-  one-decides : (s : OutputRow) (os : List OutputRow) → MayGive j s os → (r : Row) → T (within (columns j) r) → stored j r ≡ s → T (meetsExtract j r) → os ≡ cond (meetsQuery j r) (answer j r ∷ []) []
+  one-decides : (s : OutputRow) (os : List OutputRow) → MayGive j s os → (r : Row) → T (within (columns j) r) → stored j r ≡ s
+      → T (meetsExtract j r) → os ≡ cond (meetsQuery j r) (answer j r ∷ []) []
   one-decides s [] m r w a e = go (meetsQuery j r) refl
     where
       go : (b : Bool) → meetsQuery j r ≡ b → [] ≡ cond b (answer j r ∷ []) []
@@ -60,7 +61,8 @@ module _ (j : Job) (formed : JobFormed j) (kind0 : kindOf j ≡ 0) where
       rw (T-is (meetsQuery j r) (query-met j formed kind0 x r v w t qx), ← f, same-answer j formed kind0 x r v w t qx)
   one-decides s (o ∷ p ∷ os) m r w a e = absurd m
 
-  pub given-decides : (s : OutputRow) (r : Row) → T (within (columns j) r) → stored j r ≡ s → T (meetsExtract j r) → given j s ≡ cond (meetsQuery j r) (answer j r ∷ []) []
+  pub given-decides : (s : OutputRow) (r : Row) → T (within (columns j) r) → stored j r ≡ s → T (meetsExtract j r)
+      → given j s ≡ cond (meetsQuery j r) (answer j r ∷ []) []
   given-decides s r w a e = one-decides s (given j s) (given-may j s) r w a e
 
   -- so nothing else may be given than what is
@@ -92,7 +94,8 @@ module _ (j : Job) (formed : JobFormed j) (kind0 : kindOf j ≡ 0) (d : Database
       let (r, c, e, a) = rows-has (j .tables) (j .extract) d m in
       go r c e (meetsQuery j r) refl (rw (← a, given-is r c e) at g)
     where
-      go : (r : Row) → r ∈ combinations (uses (j .extract)) (j .tables) d → T (meetsExtract j r) → (b : Bool) → meetsQuery j r ≡ b → o ∈ cond b (answer j r ∷ []) [] → o ∈ rowsOf (j .tables) (j .query) d
+      go : (r : Row) → r ∈ combinations (uses (j .extract)) (j .tables) d → T (meetsExtract j r) → (b : Bool) → meetsQuery j r ≡ b
+          → o ∈ cond b (answer j r ∷ []) [] → o ∈ rowsOf (j .tables) (j .query) d
       go r c e true q n =
           let met : T (meetsQuery j r) = rw q tt in
           Memᴰ·cast (List·Memᴰ·eq-of-singleton n) (has-rows (j .tables) (j .query) d (rw (same-combinations j formed kind0 r (combined r c e) met d) at c) met)

@@ -28,7 +28,8 @@ is-formed ts e t =
     let declared = allOf (λ t. ltb t (length ts)) (e .used) in
     let output = not (isEmpty (e .outputs)) in
     let outputs = allOf (inScope ts e) (e .outputs) in
-    let (t₆, k) = and-yes (some && declared && ascending (e .used) && output && outputs && noRepeats (e .outputs)) (allOf (allOf (comparisonFormed ts e)) (e .condition)) t in
+    let condition = allOf (allOf (comparisonFormed ts e)) (e .condition) in
+    let (t₆, k) = and-yes (some && declared && ascending (e .used) && output && outputs && noRepeats (e .outputs)) condition t in
     let (t₅, n) = and-yes (some && declared && ascending (e .used) && output && outputs) (noRepeats (e .outputs)) t₆ in
     let (t₄, o) = and-yes (some && declared && ascending (e .used) && output) outputs t₅ in
     let (t₃, x) = and-yes (some && declared && ascending (e .used)) output t₄ in
@@ -143,7 +144,8 @@ module _ (ts : List Table) (e : Expression) (f : Formed ts e) (r : Row) (w : T (
   mixed-outputs = same-outputs ts e mixed r mixed-value f
 
   -- the rows of one row within bounds, where each used table holds its part
-  pub rows-one : (d : Database) → ((t : ℕ) → t < length ts → T (uses e t) → d t ≡ partOf ts r t ∷ []) → rowsOf ts e d ≡ cond (meets e r) (outputsOf e r ∷ []) []
+  pub rows-one : (d : Database) → ((t : ℕ) → t < length ts → T (uses e t) → d t ≡ partOf ts r t ∷ [])
+      → rowsOf ts e d ≡ cond (meets e r) (outputsOf e r ∷ []) []
   unfolding rowsOf
   rows-one d h = rw (combinations-one (uses e) ts r d h, mixed-meets) (go (meets e r))
     where
@@ -160,11 +162,14 @@ rows-are ts e d p f w o = (
 )
 
 -- only the rows in used tables matter, as lists and as sets
-pub rows-cong : (ts : List Table) (e : Expression) (d f : Database) → ((t : ℕ) → t < length ts → T (uses e t) → d t ≡ f t) → rowsOf ts e d ≡ rowsOf ts e f
+pub rows-cong : (ts : List Table) (e : Expression) (d f : Database) → ((t : ℕ) → t < length ts → T (uses e t) → d t ≡ f t)
+    → rowsOf ts e d ≡ rowsOf ts e f
 unfolding rowsOf
 rows-cong ts e d f h = rw (combinations-cong (uses e) (uses e) ts d f (λ t lt. refl) h)
 
-pub rows-more : (ts : List Table) (e : Expression) (d f : Database) → ((t : ℕ) → t < length ts → T (uses e t) → (x : TableRow) → x ∈ d t → x ∈ f t) → {o : OutputRow} → o ∈ rowsOf ts e d → o ∈ rowsOf ts e f
+pub rows-more : (ts : List Table) (e : Expression) (d f : Database)
+    → ((t : ℕ) → t < length ts → T (uses e t) → (x : TableRow) → x ∈ d t → x ∈ f t) → {o : OutputRow} → o ∈ rowsOf ts e d
+    → o ∈ rowsOf ts e f
 rows-more ts e d f h m =
     let (r, c, t, a) = rows-has ts e d m in
     rw (← a) (has-rows ts e f (combinations-more (uses e) ts d f h c) t)

@@ -49,7 +49,8 @@ module _ (ts : List Table) (e : Expression) (formed : T (expressionFormed ts e))
 
   -- its rows are the outputs of every row within bounds that meets the condition and whose part in each used table is a row of that table
   pub expression-rows : (d : Database) → T (allOf tableFormed ts) → WithinBounds ts d → (o : OutputRow)
-      → (o ∈ rowsOf ts e d) ↔ ((r : Row) × T (within (columnsOf ts) r) × ((t : ℕ) → t < length ts → T (uses e t) → partOf ts r t ∈ d t) × T (meets e r) × (outputsOf e r ≡ o))
+      → (o ∈ rowsOf ts e d)
+      ↔ ((r : Row) × T (within (columnsOf ts) r) × ((t : ℕ) → t < length ts → T (uses e t) → partOf ts r t ∈ d t) × T (meets e r) × (outputsOf e r ≡ o))
   expression-rows d f w o = rows-are ts e d f (is-formed ts e formed) w o
 
 -- where no row meets the query's condition the kind is 0, whatever else holds
@@ -99,25 +100,29 @@ module _ (j : Job) (formed : T (structured j)) where
 
   -- made of any row, or any two, that the kind speaks of
   pub evidence-1 : T (tablesDiffer j) → (r : Row) → T (within (columns j) r) → T (meetsQuery j r) → Evidence j (rowDatabase j r) (reducedDatabase j r)
-  evidence-1 = found.evidence-1 j job
+  evidence-1 differ r w q = found.evidence-1 j job r w differ q
 
   pub evidence-2 : (r : Row) → T (within (columns j) r) → T (witness2 j r) → Evidence j (rowDatabase j r) emptyDatabase
   evidence-2 = found.evidence-2 j job
 
-  pub evidence-3 : (r s : Row) → T (within (columns j) r) → T (within (columns j) s) → T (witness3 j r s) → Evidence j (rowDatabase j r) (rowDatabase j s)
+  pub evidence-3 : (r s : Row) → T (within (columns j) r) → T (within (columns j) s) → T (witness3 j r s)
+      → Evidence j (rowDatabase j r) (rowDatabase j s)
   evidence-3 = found.evidence-3 j job
 
-  pub evidence-4 : (r s : Row) → T (within (columns j) r) → T (within (columns j) s) → T (witness4 j r s) → Evidence j (rowDatabase j r) (rowDatabase j s)
+  pub evidence-4 : (r s : Row) → T (within (columns j) r) → T (within (columns j) s) → T (witness4 j r s)
+      → Evidence j (rowDatabase j r) (rowDatabase j s)
   evidence-4 = found.evidence-4 j job
 
   -- ---- 3. Where the kind is 0, running on the extract's rows lists the query's rows, each once
 
-  pub run-lists : kindOf j ≡ 0 → (d : Database) → WithinBounds (j .tables) d → (ss : List OutputRow) → SameSet ss (extractRows j d) → SameSet (runOf j ss) (queryRows j d) × Distinct (runOf j ss)
+  pub run-lists : kindOf j ≡ 0 → (d : Database) → WithinBounds (j .tables) d → (ss : List OutputRow) → SameSet ss (extractRows j d)
+      → SameSet (runOf j ss) (queryRows j d) × Distinct (runOf j ss)
   run-lists k d w ss s = (running.run-same j job k d w ss s, running.run-distinct j ss)
 
 -- ---- 4. Filling lists the extract's rows, each once
 
-pub fill-lists : (j : Job) (d : Database) (ranges : ℕ → List TableRow) → RangesHold j ranges d → SameSet (fillOf j ranges) (extractRows j d) × Distinct (fillOf j ranges)
+pub fill-lists : (j : Job) (d : Database) (ranges : ℕ → List TableRow) → RangesHold j ranges d
+    → SameSet (fillOf j ranges) (extractRows j d) × Distinct (fillOf j ranges)
 fill-lists j d ranges h = (running.fill-same j d ranges h, running.fill-distinct j ranges)
 
 -- ---- 5. Where the kind is 0, a run's rows don't depend on which rows stand in for the stored ones
@@ -141,13 +146,15 @@ module _ (j : Job) (formed : T (structured j)) (computable : kindOf j ≡ 0) whe
   run-by-any ss gs m = ap (once sameRow) (same-given ss gs m)
 
   -- any row that has the stored values and meets the extract's condition decides whether the stored row gives a query row, and which
-  pub one-row-decides : (s : OutputRow) (r : Row) → T (within (columns j) r) → stored j r ≡ s → T (meetsExtract j r) → given j s ≡ cond (meetsQuery j r) (answer j r ∷ []) []
+  pub one-row-decides : (s : OutputRow) (r : Row) → T (within (columns j) r) → stored j r ≡ s → T (meetsExtract j r)
+      → given j s ≡ cond (meetsQuery j r) (answer j r ∷ []) []
   one-row-decides s r w a e = running.given-decides j (job-formed j formed) computable s r w a e
 
 -- ---- 6. The listing's 2: its table is used, it isn't stored, and any two rows that meet the extract's condition and agree in the stored columns
 -- agree in it
 
-pub listing-fixed : (j : Job) (c : ℕ) → listingOf j c ≡ 2 ↔ T (uses (j .extract) (tableOf (j .tables) c)) × T (not (anyOf (eqb c) (j .extract .outputs)))
+pub listing-fixed : (j : Job) (c : ℕ)
+    → listingOf j c ≡ 2 ↔ T (uses (j .extract) (tableOf (j .tables) c)) × T (not (anyOf (eqb c) (j .extract .outputs)))
     × ((r s : Row) → T (within (columns j) r) → T (within (columns j) s) → T (meetsExtract j r) → T (meetsExtract j s) → stored j r ≡ stored j s → value r c ≡ value s c)
 listing-fixed = listing-2
 
@@ -163,7 +170,8 @@ module _ (bs : List Bounds) (ks : List Comparison) where
       go (some r) e n = let ((w, h), low) = least.least-is bs ks r e in absurd (n r w h)
 
   -- else the row that meets it and is in every column at most every row that meets it
-  pub least-some : (r : Row) → leastRow bs ks ≡ some r ↔ T (within bs r) × T (clauseHolds r ks) × ((s : Row) → T (within bs s) → T (clauseHolds s ks) → T (atMostRow r s))
+  pub least-some : (r : Row)
+      → leastRow bs ks ≡ some r ↔ T (within bs r) × T (clauseHolds r ks) × ((s : Row) → T (within bs s) → T (clauseHolds s ks) → T (atMostRow r s))
   least-some r = (
     λ e. let ((w, h), low) = least.least-is bs ks r e in (w, h, λ s v i. low s (v, i)),
     λ (w, h, low). least.is-least bs ks r (w, h) (λ s (v, i). low s v i),

@@ -122,7 +122,8 @@ module _ (j : Job) where
   -- where kind 1 doesn't apply, a row that meets the query's condition shows that the used tables are the same
   pub tables-same : T (not (kind1 j)) → (r : Row) → T (within (columns j) r) → T (meetsQuery j r) → T (not (tablesDiffer j))
   unfolding kind1
-  tables-same n r w q = not-T (tablesDiffer j) (λ x. T-not (kind1 j) n (yes-and (tablesDiffer j) (someRow (columns j) (meetsQuery j)) x (has-some (columns j) (meetsQuery j) r w q)))
+  tables-same n r w q = not-T (tablesDiffer j) (λ x.
+      T-not (kind1 j) n (yes-and (tablesDiffer j) (someRow (columns j) (meetsQuery j)) x (has-some (columns j) (meetsQuery j) r w q)))
 
   pub same-uses : T (not (tablesDiffer j)) → (t : ℕ) → uses (j .extract) t ≡ uses (j .query) t
   unfolding tablesDiffer

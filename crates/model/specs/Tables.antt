@@ -123,13 +123,17 @@ Database = ℕ → List TableRow
 abbrev pub WithinBounds : List Table → Database → Type 0
 WithinBounds ts d = (t : ℕ) → t < length ts → (r : TableRow) → r ∈ d t → T (within (getD ts t []) r)
 
+-- what is said of each table, of those after the first
+abbrev pub after : {A : Type 0} → (ℕ → A) → ℕ → A
+after f t = f (suc t)
+
 -- Every combination of one row from each used table, the lowest-numbered table changing slowest.
 -- Columns of other tables stand at lo: a well-formed expression doesn't look at them.
 abbrev pub combinations : (ℕ → Bool) → List Table → Database → List Row
 combinations used [] d = [] ∷ []
 combinations used (b ∷ bs) d =
     flatMap (cond (used zero) (d zero) (map (λ c. c .lo) b ∷ [])) (λ x.
-    map (λ r. x ++ r) (combinations (λ t. used (suc t)) bs (λ t. d (suc t))))
+    map (λ r. x ++ r) (combinations (after used) bs (after d)))
 
 -- an expression's rows: the outputs of every combination that meets the condition
 unfoldable pub rowsOf : List Table → Expression → Database → List OutputRow

@@ -137,4 +137,5 @@ emptyDatabase t = []
 
 -- any two databases with the same extract rows have the same query rows
 abbrev pub Determined : Job → Type 0
-Determined j = (d f : Database) → WithinBounds (j .tables) d → WithinBounds (j .tables) f → SameSet (extractRows j d) (extractRows j f) → SameSet (queryRows j d) (queryRows j f)
+Determined j = (d f : Database) → WithinBounds (j .tables) d → WithinBounds (j .tables) f
+    → SameSet (extractRows j d) (extractRows j f) → SameSet (queryRows j d) (queryRows j f)
