@@ -216,8 +216,12 @@ ranges : ℕ → List TableRow
 ranges zero = (pos 1 ∷ pos 0 ∷ []) ∷ (pos 0 ∷ pos 0 ∷ []) ∷ (pos 0 ∷ pos 1 ∷ []) ∷ (pos 1 ∷ pos 0 ∷ []) ∷ []
 ranges (suc t) = (pos 1 ∷ []) ∷ (pos 0 ∷ []) ∷ []
 
-fill-order : fillOf (job two (over (0 ∷ 1 ∷ []) (2 ∷ 0 ∷ []) ((is 1 (pos 0) ∷ []) ∷ [])) plain) ranges
-    ≡ (pos 1 ∷ pos 1 ∷ []) ∷ (pos 0 ∷ pos 1 ∷ []) ∷ (pos 1 ∷ pos 0 ∷ []) ∷ (pos 0 ∷ pos 0 ∷ []) ∷ []
+fill-order : fillOf (job two (over (0 ∷ 1 ∷ []) (2 ∷ 0 ∷ 1 ∷ []) ((is 1 (pos 0) ∷ []) ∷ [])) plain) ranges
+    ≡ (pos 1 ∷ pos 1 ∷ pos 0 ∷ [])
+    ∷ (pos 0 ∷ pos 1 ∷ pos 0 ∷ [])
+    ∷ (pos 1 ∷ pos 0 ∷ pos 0 ∷ [])
+    ∷ (pos 0 ∷ pos 0 ∷ pos 0 ∷ [])
+    ∷ []
 unfolding fillOf extractRows rowsOf uses meets outputsOf clauseHolds conditionHolds ranges
 fill-order = refl
 
