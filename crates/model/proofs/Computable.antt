@@ -31,7 +31,7 @@ module _ (j : Job) (formed : JobFormed j) (kind0 : kindOf j ≡ 0) where
     extract-met = stable (meetsExtract j r) (λ x.
         T-not (kind2 j) (none-applies .not2) (has-some (columns j) (witness2 j) r w (yes-and (meetsQuery j r) (not (meetsExtract j r)) q x)))
 
-  -- two rows that meet the extract's condition and agree in the stored columns, one of which meets the query's
+  -- two rows that the extract can't tell apart, of which the query wants the first
   module _ (r s : Row) (v : T (within (columns j) r)) (w : T (within (columns j) s)) (t : Alike j r s) (qr : T (meetsQuery j r)) where
     pub query-met : T (meetsQuery j s)
     unfolding kind3

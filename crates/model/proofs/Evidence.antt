@@ -13,7 +13,8 @@ use Rattle.words.specs.Compare.{more}
 use Rattle.model.specs.Lists.{_∈_, SameSet}
 use Rattle.model.specs.Tables.{Row, OutputRow, Job, Database, WithinBounds, within, uses, partOf, rowsOf}
 use Rattle.model.specs.Rows.{someRow, sameRow}
-use Rattle.model.specs.Verdict.{usesOther, columns, tablesDiffer, witness2, witness3, witness4, kind1, kind2, kind3, kind4, kindOf, extractRows, queryRows, Apart, AtMostOneRow, Evidence, rowDatabase, reducedDatabase, answer, meetsExtract, stored, emptyDatabase, meetsQuery}
+use Rattle.model.specs.Verdict.{usesOther, columns, tablesDiffer, witness2, witness3, witness4, kind1, kind2, kind3, kind4, kindOf, extractRows, queryRows, Apart, AtMostOneRow, Evidence, answer, meetsExtract, stored, meetsQuery}
+use Rattle.model.specs.Pair.{rowDatabase, reducedDatabase, emptyDatabase}
 use Rattle.model.proofs.Lists.{T-is, not-is, same-is, one-none}
 use Rattle.model.proofs.Rows.{some-has, two-has, is-same-row}
 use Rattle.model.proofs.Verdict.{Alike, witness3-has, witness4-has, kind-any}
@@ -176,7 +177,7 @@ module _ (j : Job) (formed : JobFormed j) where
           second-small = none-small;
         }
 
-  -- ---- kinds 3 and 4: two rows that meet the extract's condition and agree in the stored columns
+  -- ---- kinds 3 and 4: two rows that the extract can't tell apart
   module _ (r s : Row) (v : T (within (columns j) r)) (w : T (within (columns j) s)) where
     two : Alike j r s → ¬ SameSet (queryRows j (rowDatabase j r)) (queryRows j (rowDatabase j s)) → Evidence j (rowDatabase j r) (rowDatabase j s)
     two t n = record {

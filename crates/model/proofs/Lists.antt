@@ -49,6 +49,10 @@ module _ {A : Type 0} where
   all-has p (List·Memᴰ·head {x = y} {xs = ys} e) t = rw e ((and-yes (p y) (allOf p ys) t) .0)
   all-has p (List·Memᴰ·tail {x = y} {xs = ys} m) t = all-has p m ((and-yes (p y) (allOf p ys) t) .1)
 
+  pub has-all : (p : A → Bool) (xs : List A) → ((x : A) → x ∈ xs → T (p x)) → T (allOf p xs)
+  has-all p [] h = tt
+  has-all p (x ∷ xs) h = yes-and (p x) (allOf p xs) (h x (List·Memᴰ·head refl)) (has-all p xs (λ y m. h y (List·Memᴰ·tail m)))
+
   -- ---- those that pass
   pub filter-has : (p : A → Bool) (xs : List A) {x : A} → x ∈ filter p xs → (x ∈ xs) × T (p x)
   filter-has p [] m = absurd (List·Memᴰ·not-nil m)

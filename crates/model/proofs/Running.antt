@@ -3,7 +3,8 @@
 use mathlib.Core.Path.{_≡_, refl, sym, _∙_}
 use mathlib.Core.Bool.{Bool, true, false, cond, _&&_}
 use mathlib.Core.List.{List, [], _∷_, List·Memᴰ·head, List·Memᴰ·not-nil, List·Memᴰ·eq-of-singleton, Memᴰ·cast}
-use Prim.Native.Nat.{ℕ}
+use Prim.Native.Nat.{ℕ, _<_}
+use lib.ListN.{length}
 use mathlib.Core.Option.{Option, none, some}
 use mir.Facts.{and-yes, yes-and}
 use lib.Dec.{T, T-not, not-T}
@@ -11,7 +12,7 @@ use Rattle.model.specs.Lists.{_∈_, SameSet, Distinct, flatMap, ifAny, 
 use Rattle.model.specs.Tables.{Row, OutputRow, Job, Database, WithinBounds, within, uses, combinations, rowsOf, inside, TableRow}
 use Rattle.model.specs.Rows.{box, someRow, sameRow}
 use Rattle.model.specs.Verdict.{columns, kindOf, extractRows, queryRows, answer, meetsExtract, stored, meetsQuery}
-use Rattle.model.specs.Running.{fillOf, RangesHold, standsIn, runOf, MayGive, given}
+use Rattle.model.specs.Running.{fillOf, standsIn, runOf, MayGive, given}
 use Rattle.model.proofs.Lists.{T-is, find-some, find-none, flatMap-has, has-flatMap, once-has, has-once, once-distinct}
 use Rattle.model.proofs.Rows.{box-has, has-box, some-has, has-some, same-row-is, same-row-refl, is-same-row}
 use Rattle.model.proofs.Verdict.{Alike}
@@ -122,7 +123,8 @@ unfolding runOf
 run-distinct j ss = once-distinct sameRow same-row-refl (flatMap ss (given j))
 
 -- ---- filling
-pub fill-same : (j : Job) (d : Database) (ranges : ℕ → List TableRow) → RangesHold j ranges d → SameSet (fillOf j ranges) (extractRows j d)
+pub fill-same : (j : Job) (d : Database) (ranges : ℕ → List TableRow) → ((t : ℕ) → t < length (j .tables) → T (uses (j .extract) t) → SameSet (ranges t) (d t))
+    → SameSet (fillOf j ranges) (extractRows j d)
 unfolding fillOf extractRows
 fill-same j d ranges h o = (
   λ m. rows-more (j .tables) (j .extract) ranges d (λ t lt u x. (h t lt u x) .0) (once-has sameRow (extractRows j ranges) m),

@@ -14,7 +14,8 @@ use Rattle.model.specs.Tables.{rowsOf, uses, Row, OutputRow, outputsOf, 
 use Rattle.model.specs.WellFormed.{limited, expressionFormed, conditionLimited, structured, wellFormed}
 use Rattle.model.specs.Rows.{twoRows, valuesOf, someRow}
 use Rattle.model.specs.Least.{leastRow, isLeast}
-use Rattle.model.specs.Verdict.{reducedDatabase, witness2, rowDatabase, kindOf, kind4, tablesDiffer, unfixing, kind2, fixed, alikeInExtract, witness3, kind1, usesOther, listingOf, extractRows, kind3, witness4, queryRows}
+use Rattle.model.specs.Verdict.{witness2, kindOf, kind4, tablesDiffer, unfixing, kind2, fixed, alikeInExtract, witness3, kind1, usesOther, listingOf, extractRows, kind3, witness4, queryRows}
+use Rattle.model.specs.Pair.{rowDatabase, reducedDatabase}
 use Rattle.model.specs.Running.{fillOf, standsIn, runOf, given}
 
 -- ---- two tables: columns 0 and 1, and column 2
@@ -27,6 +28,10 @@ bits = bounded (pos 0) (pos 1)
 
 abbrev two : List Table
 two = (bits ∷ bits ∷ []) ∷ (bits ∷ []) ∷ []
+
+-- four of one column each
+abbrev four : List Table
+four = replicate 4 (bits ∷ [])
 
 abbrev against : Op → ℕ → ℕ → Comparison
 against o c d = record { op = o; left = c; right = column d }
@@ -84,9 +89,11 @@ samples =
     ∷ both false true (over (0 ∷ 2 ∷ []) (0 ∷ []) [])
     ∷ both false true (over (1 ∷ 0 ∷ []) (0 ∷ []) [])
     ∷ both false true (over (0 ∷ 0 ∷ []) (0 ∷ []) [])
+    ∷ both false true (over (0 ∷ 1 ∷ 1 ∷ []) (0 ∷ []) [])
     -- no output, one twice, one that isn't declared, one of a table that isn't used
     ∷ both false true (table0 [] [])
     ∷ both false true (table0 (1 ∷ 0 ∷ 1 ∷ []) [])
+    ∷ both false true (table0 (0 ∷ 1 ∷ 1 ∷ []) [])
     ∷ both false true (over (0 ∷ 1 ∷ []) (3 ∷ []) [])
     ∷ both false true (table0 (2 ∷ []) [])
     -- the same of either side of a comparison
@@ -106,6 +113,9 @@ samples =
     ∷ tables true true ((bits ∷ bounded (pos 7) (pos 7) ∷ []) ∷ [])
     -- four tables of four columns at the limits; five tables, 17 columns in all, bounds out of range
     ∷ tables true true (replicate 4 (replicate 4 (bounded (negsuc 999999) (pos 1000000))))
+    ∷ tables true true (replicate 16 bits ∷ [])
+    ∷ tables true true (replicate 4 (bounded (negsuc 999999) (negsuc 999998) ∷ []))
+    ∷ (sample true true (job four (over (0 ∷ 2 ∷ 3 ∷ []) (3 ∷ 0 ∷ 2 ∷ []) all) (over (0 ∷ 1 ∷ 2 ∷ 3 ∷ []) (3 ∷ 2 ∷ 1 ∷ 0 ∷ []) ((against less 3 2 ∷ []) ∷ []))) ∷ [])
     ∷ tables true false (replicate 5 (bits ∷ []))
     ∷ tables true false (replicate 9 bits ∷ replicate 8 bits ∷ [])
     ∷ tables true false ((bits ∷ []) ∷ (bits ∷ bounded (negsuc 1000000) (pos 0) ∷ []) ∷ [])
@@ -146,6 +156,12 @@ verdicts =
     -- the README's example: arm and error of one tool, where the tool isn't stored, and where it is
     ∷ verdict 3 (1 ∷ 3 ∷ 1 ∷ []) (job checks (table0 (0 ∷ 2 ∷ []) all) oneTool)
     ∷ verdict 0 (1 ∷ 1 ∷ 1 ∷ []) (job checks (table0 (0 ∷ 1 ∷ 2 ∷ []) all) oneTool)
+    -- tables that only one expression uses, or none
+    ∷ verdict 0 (0 ∷ 3 ∷ 0 ∷ 1 ∷ []) (job four (over (1 ∷ 3 ∷ []) (3 ∷ []) all) (over (1 ∷ 3 ∷ []) (3 ∷ []) all))
+    ∷ verdict 1 (1 ∷ 0 ∷ 0 ∷ 0 ∷ []) (job four plain (over (1 ∷ []) (1 ∷ []) all))
+    -- the third clause counts, and the third comparison
+    ∷ verdict 0 (1 ∷ 3 ∷ 0 ∷ []) (job two (table0 (0 ∷ []) ((against less 0 0 ∷ []) ∷ (against less 0 0 ∷ []) ∷ [] ∷ [])) plain)
+    ∷ verdict 0 (1 ∷ 2 ∷ 0 ∷ []) (job two (table0 (0 ∷ []) []) (table0 (0 ∷ []) ((against equal 0 0 ∷ against equal 0 0 ∷ against less 0 0 ∷ []) ∷ [])))
     -- the query uses more, the extract uses more; never met
     ∷ verdict 1 (1 ∷ 3 ∷ 0 ∷ []) (job two plain (product all))
     ∷ verdict 1 (1 ∷ 3 ∷ 3 ∷ []) (job two (product all) plain)
@@ -181,7 +197,7 @@ verdict-samples : T (allOf judged verdicts)
 unfolding verdicts judged
 verdict-samples = tt
 
--- ---- the two databases of kind 1: the extract's rows and the query's rows on each
+-- ---- the two databases of kind 1, with the rows of both expressions on each
 
 zeros : Row
 zeros = pos 0 ∷ pos 0 ∷ pos 0 ∷ []
@@ -214,13 +230,13 @@ no-least = refl
 -- the lowest table changes slowest, repeats are dropped where they appear again, and so is what doesn't meet the condition
 ranges : ℕ → List TableRow
 ranges zero = (pos 1 ∷ pos 0 ∷ []) ∷ (pos 0 ∷ pos 0 ∷ []) ∷ (pos 0 ∷ pos 1 ∷ []) ∷ (pos 1 ∷ pos 0 ∷ []) ∷ []
-ranges (suc t) = (pos 1 ∷ []) ∷ (pos 0 ∷ []) ∷ []
+ranges (suc t) = (pos 0 ∷ []) ∷ (pos 1 ∷ []) ∷ []
 
 fill-order : fillOf (job two (over (0 ∷ 1 ∷ []) (2 ∷ 0 ∷ 1 ∷ []) ((is 1 (pos 0) ∷ []) ∷ [])) plain) ranges
-    ≡ (pos 1 ∷ pos 1 ∷ pos 0 ∷ [])
-    ∷ (pos 0 ∷ pos 1 ∷ pos 0 ∷ [])
-    ∷ (pos 1 ∷ pos 0 ∷ pos 0 ∷ [])
+    ≡ (pos 0 ∷ pos 1 ∷ pos 0 ∷ [])
+    ∷ (pos 1 ∷ pos 1 ∷ pos 0 ∷ [])
     ∷ (pos 0 ∷ pos 0 ∷ pos 0 ∷ [])
+    ∷ (pos 1 ∷ pos 0 ∷ pos 0 ∷ [])
     ∷ []
 unfolding fillOf extractRows rowsOf uses meets outputsOf clauseHolds conditionHolds ranges
 fill-order = refl

@@ -5,25 +5,26 @@ use mathlib.Core.Logic.{_↔_}
 use mathlib.Core.Bool.{Bool, true, false, not, cond}
 use mathlib.Core.List.{List, [], _∷_}
 use mathlib.Core.Option.{Option, none, some}
-use Prim.Native.Nat.{ℕ, _<_}
-use lib.ListN.{length}
+use Prim.Native.Nat.{ℕ, _<_, _≤_}
+use lib.ListN.{length, getD}
 use native.Mathlib.Decide.{ℕ-discrete}
 use lib.Dec.{T, eqb}
 use Rattle.model.specs.Lists.{_∈_, SameSet, Distinct, anyOf, allOf, once, concat, flatMap}
-use Rattle.model.specs.Tables.{Bounds, Table, Row, OutputRow, Comparison, Expression, Job, clauseHolds, meets, outputsOf, uses, tableOf, within, Database, WithinBounds, rowsOf, columnsOf, Condition, value, conditionHolds, partOf, TableRow}
+use Rattle.model.specs.Tables.{Clause, comparisonHolds, Bounds, Table, Row, OutputRow, Comparison, Expression, Job, clauseHolds, meets, outputsOf, uses, tableOf, within, Database, WithinBounds, rowsOf, columnsOf, Condition, value, conditionHolds, partOf, TableRow}
 use Rattle.model.specs.WellFormed.{tableFormed, expressionFormed, structured, inScope}
 use Rattle.model.specs.Rows.{someRow, twoRows, sameRow}
 use Rattle.model.specs.Least.{atMostRow, leastRow}
-use Rattle.model.specs.Verdict.{columns, witness2, witness3, witness4, kindOf, listingOf, extractRows, queryRows, Determined, Apart, Evidence, rowDatabase, reducedDatabase, answer, meetsExtract, stored, emptyDatabase, meetsQuery, HandedOut, tablesDiffer}
-use Rattle.model.specs.Running.{fillOf, RangesHold, runOf, MayGive, given}
-use Rattle.model.proofs.Lists.{same-is, same-sym, same-trans}
+use Rattle.model.specs.Verdict.{columns, witness2, witness3, witness4, kindOf, listingOf, extractRows, queryRows, Determined, Apart, Evidence, answer, meetsExtract, stored, meetsQuery, HandedOut, tablesDiffer}
+use Rattle.model.specs.Pair.{rowDatabase, reducedDatabase, emptyDatabase}
+use Rattle.model.specs.Running.{fillOf, runOf, MayGive, given}
+use Rattle.model.proofs.Lists.{all-has, has-all, any-has, has-any, same-is, same-sym, same-trans}
 use Rattle.model.proofs.Rows.{some-has, has-some, two-has, has-two}
 use Rattle.model.proofs.Least as least
 use Rattle.model.proofs.Verdict.{never-met}
 use Rattle.model.proofs.Running as running
-use Rattle.model.proofs.Scope.{JobFormed, is-formed, job-formed, same-meets, same-outputs, rows-are}
+use Rattle.model.proofs.Scope.{JobFormed, is-formed, job-formed, same-meets, same-outputs, rows-are, rows-cong}
 use Rattle.model.proofs.Evidence as found
-use Rattle.model.proofs.Listing.{listing-2}
+use Rattle.model.proofs.Listing.{listing-0, listing-1, listing-2, listing-most}
 
 -- ---- what the searches over all rows, conditions and an expression's rows mean
 
@@ -33,7 +34,15 @@ some-row bs p = (some-has bs p, λ (r, w, t). has-some bs p r w t)
 pub two-rows : (bs : List Bounds) (p : Row → Row → Bool) → T (twoRows bs p) ↔ ((r : Row) × (s : Row) × T (within bs r) × T (within bs s) × T (p r s))
 two-rows bs p = (two-has bs p, λ (r, s, v, w, t). has-two bs p r s v w t)
 
--- no clause never holds, and an empty clause always does
+pub clause-holds : (r : Row) (c : Clause) → T (clauseHolds r c) ↔ ((k : Comparison) → k ∈ c → T (comparisonHolds r k))
+unfolding clauseHolds
+clause-holds r c = (λ t k m. all-has (comparisonHolds r) m t, has-all (comparisonHolds r) c)
+
+pub condition-holds : (r : Row) (k : Condition) → T (conditionHolds r k) ↔ ((c : Clause) × (c ∈ k) × T (clauseHolds r c))
+unfolding conditionHolds
+condition-holds r k = (any-has (clauseHolds r) k, λ (c, m, t). has-any (clauseHolds r) m t)
+
+-- so a condition without clauses rejects every row, and one with an empty clause none
 pub no-clause : (r : Row) → conditionHolds r [] ≡ false
 unfolding conditionHolds
 no-clause r = refl
@@ -41,6 +50,10 @@ no-clause r = refl
 pub empty-clause : (r : Row) (k : Condition) → conditionHolds r ([] ∷ k) ≡ true
 unfolding conditionHolds clauseHolds
 empty-clause r k = refl
+
+-- a database may have any rows within bounds, any number of them
+pub any-database : (ts : List Table) (d : Database) → ((t : ℕ) → t < length ts → T (allOf (within (getD ts t [])) (d t))) → WithinBounds ts d
+any-database ts d a t lt r m = all-has (within (getD ts t [])) m (a t lt)
 
 module _ (ts : List Table) (e : Expression) (formed : T (expressionFormed ts e)) where
   -- columns of tables that the expression doesn't use play no part in it
@@ -85,7 +98,7 @@ module _ (j : Job) (formed : T (structured j)) where
     λ (d, f, a) k. a .other-query (determines k d f (a .first-within) (a .second-within) (a .same-extract)),
   )
 
-  -- ---- 2. Where the kind is 1 to 4, two databases with at most one row per table show it
+  -- ---- 2. Where the kind is 1 to 4, two small databases show it
 
   pub evidence : ¬ (kindOf j ≡ 0) → (d : Database) × (f : Database) × Evidence j d f
   evidence n = found.some-evidence j job n
@@ -119,11 +132,19 @@ module _ (j : Job) (formed : T (structured j)) where
       → SameSet (runOf j ss) (queryRows j d) × Distinct (runOf j ss)
   run-lists k d w ss s = (running.run-same j job k d w ss s, running.run-distinct j ss)
 
--- ---- 4. Filling lists the extract's rows, each once
+-- ---- 4. Filling lists the extract's rows on a database, each once, from any ranges that hold the rows of the used tables
 
-pub fill-lists : (j : Job) (d : Database) (ranges : ℕ → List TableRow) → RangesHold j ranges d
-    → SameSet (fillOf j ranges) (extractRows j d) × Distinct (fillOf j ranges)
-fill-lists j d ranges h = (running.fill-same j d ranges h, running.fill-distinct j ranges)
+module _ (j : Job) where
+  pub fill-lists : (d : Database) (ranges : ℕ → List TableRow)
+      → ((t : ℕ) → t < length (j .tables) → T (uses (j .extract) t) → SameSet (ranges t) (d t))
+      → SameSet (fillOf j ranges) (extractRows j d) × Distinct (fillOf j ranges)
+  fill-lists d ranges h = (running.fill-same j d ranges h, running.fill-distinct j ranges)
+
+  -- ranges of other tables make no difference
+  pub fill-unused : (ranges other : ℕ → List TableRow) → ((t : ℕ) → t < length (j .tables) → T (uses (j .extract) t) → ranges t ≡ other t)
+      → fillOf j ranges ≡ fillOf j other
+  unfolding fillOf extractRows
+  fill-unused ranges other h = ap (once sameRow) (rows-cong (j .tables) (j .extract) ranges other h)
 
 -- ---- 5. Where the kind is 0, a run's rows don't depend on which rows stand in for the stored ones
 
@@ -150,13 +171,23 @@ module _ (j : Job) (formed : T (structured j)) (computable : kindOf j ≡ 0) whe
       → given j s ≡ cond (meetsQuery j r) (answer j r ∷ []) []
   one-row-decides s r w a e = running.given-decides j (job-formed j formed) computable s r w a e
 
--- ---- 6. The listing's 2: its table is used, it isn't stored, and any two rows that meet the extract's condition and agree in the stored columns
--- agree in it
+-- ---- 6. The listing, and what its 2 means: rows that the extract can't tell apart don't differ in the column
 
-pub listing-fixed : (j : Job) (c : ℕ)
-    → listingOf j c ≡ 2 ↔ T (uses (j .extract) (tableOf (j .tables) c)) × T (not (anyOf (eqb c) (j .extract .outputs)))
-    × ((r s : Row) → T (within (columns j) r) → T (within (columns j) s) → T (meetsExtract j r) → T (meetsExtract j s) → stored j r ≡ stored j s → value r c ≡ value s c)
-listing-fixed = listing-2
+module _ (j : Job) (c : ℕ) where
+  pub listing-unused : listingOf j c ≡ 0 ↔ T (not (uses (j .extract) (tableOf (j .tables) c)))
+  listing-unused = listing-0 j c
+
+  pub listing-stored : listingOf j c ≡ 1 ↔ T (uses (j .extract) (tableOf (j .tables) c)) × T (anyOf (eqb c) (j .extract .outputs))
+  listing-stored = listing-1 j c
+
+  pub listing-fixed : listingOf j c ≡ 2 ↔ T (uses (j .extract) (tableOf (j .tables) c)) × T (not (anyOf (eqb c) (j .extract .outputs)))
+      × ((r s : Row) → T (within (columns j) r) → T (within (columns j) s) → T (meetsExtract j r) → T (meetsExtract j s) → stored j r ≡ stored j s
+      → value r c ≡ value s c)
+  listing-fixed = listing-2 j c
+
+  -- and 3 is what is left
+  pub listing-neither : listingOf j c ≤ 3
+  listing-neither = listing-most j c
 
 -- ---- 7. The least row of a list of comparisons
 

@@ -4,4 +4,5 @@ pub mod WellFormed
 pub mod Rows
 pub mod Least
 pub mod Verdict
+pub mod Pair
 pub mod Running

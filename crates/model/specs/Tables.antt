@@ -123,11 +123,11 @@ Database = ℕ → List TableRow
 abbrev pub WithinBounds : List Table → Database → Type 0
 WithinBounds ts d = (t : ℕ) → t < length ts → (r : TableRow) → r ∈ d t → T (within (getD ts t []) r)
 
--- what is said of each table, of those after the first
+-- the same, with tables numbered from the second on
 abbrev pub after : {A : Type 0} → (ℕ → A) → ℕ → A
 after f t = f (suc t)
 
--- Every combination of one row from each used table, the lowest-numbered table changing slowest.
+-- A row of each used table, chosen in every way and put side by side; the choice from the lowest-numbered table changes slowest.
 -- Columns of other tables stand at lo: a well-formed expression doesn't look at them.
 abbrev pub combinations : (ℕ → Bool) → List Table → Database → List Row
 combinations used [] d = [] ∷ []
