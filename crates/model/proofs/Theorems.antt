@@ -111,7 +111,7 @@ module _ (j : Job) (formed : T (structured j)) where
       go (yes k) = (emptyDatabase, emptyDatabase, record { with-0 = λ e t lt. (refl, refl); with-others = λ n. absurd (n k) })
       go (no n) = let (d, f, e) = evidence n in (d, f, record { with-0 = λ k. absurd (n k); with-others = λ m. e })
 
-  -- made of any row, or any two, that the kind speaks of
+  -- evidence made of any row, or any two, that the kind speaks of
   pub evidence-1 : T (tablesDiffer j) → (r : Row) → T (within (columns j) r) → T (meetsQuery j r) → Evidence j (rowDatabase j r) (reducedDatabase j r)
   evidence-1 differ r w q = found.evidence-1 j job r w differ q
 
