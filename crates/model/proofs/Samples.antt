@@ -10,7 +10,7 @@ use lib.ListN.{replicate}
 use lib.Dec.{T, eqb}
 use Rattle.words.specs.Compare.{Op, less, equal, more}
 use Rattle.model.specs.Lists.{allOf}
-use Rattle.model.specs.Tables.{rowsOf, uses, Row, OutputRow, outputsOf, Table, meets, conditionHolds, clauseHolds, Job, column, Bounds, number, Condition, Expression, Comparison, TableRow}
+use Rattle.model.specs.Tables.{rowsOf, uses, Row, OutputRow, outputsOf, Table, meets, conditionHolds, clauseHolds, Job, column, Bounds, number, Condition, Expression, Comparison, TableRow, tableOf}
 use Rattle.model.specs.WellFormed.{limited, expressionFormed, conditionLimited, structured, wellFormed}
 use Rattle.model.specs.Rows.{twoRows, valuesOf, someRow}
 use Rattle.model.specs.Least.{leastRow, isLeast}
@@ -60,6 +60,10 @@ product k = over (0 ∷ 1 ∷ []) (0 ∷ []) k
 
 abbrev job : List Table → Expression → Expression → Job
 job ts e q = record { tables = ts; extract = e; query = q }
+
+-- the table of each column, and of one that isn't declared
+column-tables : map (tableOf two) (0 ∷ 1 ∷ 2 ∷ 3 ∷ []) ≡ 0 ∷ 0 ∷ 1 ∷ 2 ∷ []
+column-tables = refl
 
 -- ---- well formed, and one rule broken at a time
 
