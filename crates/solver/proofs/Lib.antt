@@ -1,0 +1,9 @@
+pub mod Nodes
+pub mod Comparisons
+pub mod Solver
+pub mod Agree
+pub mod Imposing
+pub mod Bounds
+pub mod Progress
+pub mod Found
+pub mod Theorems

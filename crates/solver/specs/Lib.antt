@@ -1,0 +1,4 @@
+pub mod Comparisons
+pub mod Solver
+pub mod Lists
+pub mod Uses
