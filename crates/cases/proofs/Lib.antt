@@ -1,0 +1,5 @@
+pub mod Conditions
+pub mod Solving
+pub mod Limits
+pub mod Decide
+pub mod Theorems
