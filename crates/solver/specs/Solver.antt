@@ -21,11 +21,11 @@ use Rattle.solver.specs.Comparisons.{constraintsOf, listOf}
 abbrev pub fits : ℤ → Bool
 fits v = leZ (negsuc 999999999999999) v && leZ v (pos bias)
 
--- lo at most hi
+-- both fit, and lo is at most hi
 abbrev pub boundsFit : Bounds → Bool
 boundsFit b = fits (b .lo) && fits (b .hi) && leZ (b .lo) (b .hi)
 
--- a column among n
+-- a column among n, or a number that fits
 abbrev pub againstFits : ℕ → Against → Bool
 againstFits n (column c) = ltb c n
 againstFits n (number v) = fits v

@@ -1,4 +1,4 @@
-// Lists of comparisons as zones.
+// Lists of comparisons as zones: node 0 stands for the constant zero, node c + 1 for column c, and values are biased.
 ghost use mathlib.Core.Path.{_≡_};
 ghost use Prim.Native.Nat.{_+_, _*_, _<_};
 ghost use lib.ListN.{length, replicate};
@@ -21,8 +21,10 @@ const AT_LEAST: u8 = 3;
 
 const MORE: u8 = 4;
 
+// The value of node 0.
 const BIAS: u64 = 1_000_000_000_000_000;
 
+// Twice the level of an entry: a constraint the other way round is that much less what this one allows.
 const TWICE: u64 = 8_000_000_000_000_000;
 
 // What a comparison comes to: one constraint, which then stands in both places, or two.
