@@ -1,7 +1,7 @@
 -- What stands in the bytes of a list is what the solver asks for. Assumes nothing.
 use mathlib.Core.Path.{_≡_, sym, ap, _∙_}
 use mathlib.Core.Bool.{Bool, true, false, cond, _&&_}
-use mathlib.Core.List.{List, [], _∷_}
+use mathlib.Core.List.{List}
 use Prim.Native.Nat.{ℕ, zero, suc, _+_, _-_, _*_, _^_, _<_, _≤_}
 use native.Mathlib.Omega.{arith}
 use lib.ListN.{length, getD, take, drop}
@@ -18,6 +18,7 @@ use Rattle.zone.specs.Matrix.{tabulate, at}
 use Rattle.solver.specs.Solver.{fits, boundsFit, againstFits, comparisonFits}
 use Rattle.solver.specs.Lists.{boundsOf, comparisonsOf, opAt, sideOf, rowOrZeros, isSome}
 use Rattle.solver.specs.Uses.{Solves}
+use Rattle.solver.proofs.Progress.{all-at}
 use Rattle.listform.specs.Form.{valuesAt, allBelow, lows, highs, ops, lefts, rights, numbers, Parts, fitting, isList, least, codeOf, Solved}
 use Rattle.listform.proofs.Places.{bytes-length, values-length, values-at}
 
@@ -40,11 +41,6 @@ bounds-fit (suc n) f g a b t =
     (bounds-fit n (λ i. f (suc i)) (λ i. g (suc i)) (λ i. a (suc i)) (λ i. b (suc i)) k)
 
 -- ---- comparisons
-all-at : {A : Type 0} (p : A → Bool) (d : A) (xs : List A) (i : ℕ) → T (allOf p xs) → i < length xs → T (p (getD xs i d))
-all-at p d [] i t h = absurd (omega arith)
-all-at p d (x ∷ xs) zero t h = and-yes (p x) (allOf p xs) t .0
-all-at p d (x ∷ xs) (suc i) t h = all-at p d xs i (and-yes (p x) (allOf p xs) t .1) (omega arith)
-
 all-tabulated : {A : Type 0} (p : A → Bool) (n : ℕ) (f : ℕ → A) → ((i : ℕ) → i < n → T (p (f i))) → T (allOf p (tabulate n f))
 all-tabulated p zero f h = tt
 all-tabulated p (suc n) f h =
@@ -76,8 +72,8 @@ module _ (n m : ℕ) (s : List ℕ) (is : isList n m s ≡ true) where
       → T (ltb (at (lefts n m s) i) n && againstFits n (sideOf (at (rights n m s) i) (getD (numbers n m s) i (pos 0))))
   comparison-fits i h =
       let (o, l, r) = parts in
-      let k = all-at (λ x. ltb x n) 0 (lefts n m s) i l (omega (arith, bytes-length s (n * 8 + 1) 7 m)) in
-      let j = all-at (λ x. ltb x (n + 1)) 0 (rights n m s) i r (omega (arith, bytes-length s (n * 8 + 2) 7 m)) in
+      let k = all-at (λ x. ltb x n) (lefts n m s) i 0 l (omega (arith, bytes-length s (n * 8 + 1) 7 m)) in
+      let j = all-at (λ x. ltb x (n + 1)) (rights n m s) i 0 r (omega (arith, bytes-length s (n * 8 + 2) 7 m)) in
       let f : T (fits (getD (numbers n m s) i (pos 0))) = rw (values-at s (n * 8 + 3) 7 m i h) (value-fits s (n * 8 + 3 + i * 7)) in
       yes-and (ltb (at (lefts n m s) i) n) (againstFits n (sideOf (at (rights n m s) i) (getD (numbers n m s) i (pos 0)))) k
       (side-fits n (at (rights n m s) i) (getD (numbers n m s) i (pos 0)) (ltb→lt (at (rights n m s) i) (n + 1) j) f)

@@ -38,8 +38,8 @@ side-node (suc r) v = rw (ne-eqb (suc r) 0 (λ e. omega arith)) (let e : suc (su
 abbrev pub comparisonAt : List ℕ → List ℕ → List ℕ → List ℤ → ℕ → Comparison
 comparisonAt op left right numbers k = record { op = opAt (at op k); left = at left k; right = sideOf (at right k) (getD numbers k (pos 0)) }
 
--- where an element passes if all do
-all-at : {A : Type 0} (p : A → Bool) (xs : List A) (k : ℕ) (d : A) → T (allOf p xs) → k < length xs → T (p (getD xs k d))
+-- an element passes where all do
+pub all-at : {A : Type 0} (p : A → Bool) (xs : List A) (k : ℕ) (d : A) → T (allOf p xs) → k < length xs → T (p (getD xs k d))
 all-at p [] k d t h = absurd (omega arith)
 all-at p (x ∷ xs) zero d t h = and-yes (p x) (allOf p xs) t .0
 all-at p (x ∷ xs) (suc k) d t h = all-at p xs k d (and-yes (p x) (allOf p xs) t .1) (omega arith)
@@ -62,10 +62,10 @@ module _ (op left right : List ℕ) (numbers : List ℤ) where
       drop-cons ks k q (omega (arith, list-length)) ∙ rw (list-at k h q, add-one k)
 
   -- it is imposed as the two nodes and what is added say
-  pub imposed-at : (z : Zone) (k : ℕ) → imposedBy z (between (opAt (at op k)) (at left k + 1) (at right k) (addedTo (sideOf (at right k) (getD numbers k (pos 0)))))
-      ≡ imposed z (comparisonAt op left right numbers k)
+  pub imposed-at : (z : Zone) (k a b w : ℕ) → a ≡ at left k + 1 → b ≡ at right k → w ≡ addedTo (sideOf (at right k) (getD numbers k (pos 0)))
+      → imposedBy z (between (opAt (at op k)) a b w) ≡ imposed z (comparisonAt op left right numbers k)
   unfolding imposed constraintsOf
-  imposed-at z k = rw (side-node (at right k) (getD numbers k (pos 0)), add-one (at left k))
+  imposed-at z k a b w p q r = rw (p, q, r, side-node (at right k) (getD numbers k (pos 0)), add-one (at left k))
 
   -- ---- after k comparisons: what is still to come leads where the entire list does
   pub record Progress (n : ℕ) (first : List ℕ) (k : ℕ) (d : List ℕ) : Type 0 where
@@ -120,16 +120,16 @@ module _ (op left right : List ℕ) (numbers : List ℤ) where
           abbrev q : Comparison
           q = comparisonAt op left right numbers k
 
-          pub stops : isSome (imposed z q) ≡ false → (x : List ℕ) → x ≡ laid d (kept z (imposed z q)) → Ends false x
-          stops s x e =
-              let (a, b, c) = all-stop z z q (drop (k + 1) ks) s in
-              let old : x ≡ d = e ∙ rw c (laid-zone (n + 1) d (p .in-array .small)) in
+          pub stops : (o : Option Zone) → o ≡ imposed z q → isSome o ≡ false → (x : List ℕ) → x ≡ laid d (kept z o) → Ends false x
+          stops o i s x e =
+              let (a, b, c) = all-stop z z q (drop (k + 1) ks) (rw i at s) in
+              let old : x ≡ d = e ∙ rw (i, c) (laid-zone (n + 1) d (p .in-array .small)) in
               let answer : none ≡ imposedAll (zoneIn (n + 1) first) ks = sym a ∙ (rw (list-drop k h) at (p .answer)) in
               let end : z ≡ reached (zoneIn (n + 1) first) ks = sym b ∙ (rw (list-drop k h) at (p .end)) in
               (ap isSome answer, old ∙ rw (← end) (sym (p .rest)))
 
-          pub goes-on : isSome (imposed z q) ≡ true → (x : List ℕ) → x ≡ laid d (kept z (imposed z q)) → Progress n first (k + 1) x
-          goes-on s x e = go (imposed z q) refl (imposed-answers n z q (p .in-array .closed) (zone-length (n + 1) d ∙ add-one n) (fits-at k h))
+          pub goes-on : (o : Option Zone) → o ≡ imposed z q → isSome o ≡ true → (x : List ℕ) → x ≡ laid d (kept z o) → Progress n first (k + 1) x
+          goes-on o is s x e = go (imposed z q) refl (imposed-answers n z q (p .in-array .closed) (zone-length (n + 1) d ∙ add-one n) (fits-at k h))
             where
               rest-of : (y : Zone) → length y ≡ n + 1 → laid first y ≡ laid d y
               rest-of y same =
@@ -137,12 +137,12 @@ module _ (op left right : List ℕ) (numbers : List ℤ) where
                   ∙ laid-laid first z y (omega (arith, p .in-array .small)) (zone-length (n + 1) d ∙ sym same))
 
               go : (o : Option Zone) → imposed z q ≡ o → Answers z (ObeysAll (listOf (constraintsOf q))) o → Progress n first (k + 1) x
-              go none i a = absurd (false≢true (sym (ap isSome i) ∙ s))
+              go none i a = absurd (false≢true (sym (ap isSome (is ∙ i)) ∙ s))
               go (some y) i (cl, size, rows) =
-                  let laid-y : x ≡ laid d y = e ∙ rw i in
+                  let laid-y : x ≡ laid d y = e ∙ rw (is, i) in
                   let same : length y ≡ n + 1 = size ∙ zone-length (n + 1) d in
                   let is-y : zoneIn (n + 1) x ≡ y = rw laid-y (laid-is (n + 1) d y (p .in-array .full) (p .in-array .small) cl same) in
-                  let (a, b) = all-onward z y q (drop (k + 1) ks) s (rw i) in
+                  let (a, b) = all-onward z y q (drop (k + 1) ks) (rw is at s) (rw i) in
                   record {
                     in-array = rw laid-y (laid-in-array (n + 1) d y (p .in-array .full) (p .in-array .small) cl same);
                     answer = rw is-y (a ∙ (rw (list-drop k h) at (p .answer)));

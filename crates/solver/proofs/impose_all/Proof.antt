@@ -1,6 +1,6 @@
 -- `solver::impose_all` meets its contract. Assumes nothing.
 use mathlib.Core.Path.{_≡_, sym, ap, _∙_}
-use Prim.Native.Nat.{_+_, _-_, _≤_}
+use Prim.Native.Nat.{ℕ, _+_, _-_, _≤_}
 use native.Mathlib.Omega.{arith}
 use lib.IntN.{ℤ, pos}
 use lib.ListN.{length, getD}
@@ -8,7 +8,6 @@ use borrow.Author.Needs.{needs}
 use borrow.Author.Tests.{not-true, not-false}
 use Rattle.words.proofs.Stored.{stored}
 use Rattle.zone.specs.Matrix.{at}
-use Rattle.zone.specs.Array.{zoneIn}
 use Rattle.solver.specs.Comparisons.{addedTo}
 use Rattle.solver.specs.Lists.{sideOf}
 use Rattle.solver.proofs.Progress.{Progress, imposes-at, imposed-at, at-start, at-end, stops, goes-on}
@@ -23,7 +22,8 @@ abbrev μ-loop : tie.MeasureT-loop
 
 -- what is added to the right node
 added-is : (c : tie.After-added-to Inv-loop μ-loop)
-    → c .added-to .result ≡ addedTo (sideOf (at (c .before .before .before .before .before .before .before .before .before .before .before .before .args .right .now) (c .before .before .before .before .before .before .before .before .loop .k)) (getD (c .before .before .before .before .before .before .before .before .before .before .before .before .args .number .now) (c .before .before .before .before .before .before .before .before .loop .k) (pos 0)))
+    → c .added-to .result
+    ≡ addedTo (sideOf (at (c .before .before .before .before .before .before .before .before .before .before .before .before .args .right .now) (c .before .before .before .before .before .before .before .before .loop .k)) (getD (c .before .before .before .before .before .before .before .before .before .before .before .before .args .number .now) (c .before .before .before .before .before .before .before .before .loop .k) (pos 0)))
 added-is c =
     let s = c .before .before .before .before .before .before .before .before .before .before .before .before .args in
     let k = c .before .before .before .before .before .before .before .before .loop .k in
@@ -56,27 +56,17 @@ impose-all-spec =
     rw (c .before .before .before .before .before .before .before .wide .ensures, c .before .before .before .before .before .wide2 .ensures, added-is (c .before .before))
     (imposes-at _ _ _ _ _ (c .before .before .before .before .before .before .before .before .before .before .before .before .before .before .pre .listed) _ (l .inv .1 .in-array) (l .k) (c .before .before .before .before .before .before .before .before .before .loop-test .taken)))
     (λ c.
-    let s = c .before .before .before .before .before .before .before .before .before .before .before .before .before .before .before .before in
-    let l = c .before .before .before .before .before .before .before .before .before .before .before .before .loop in
-    let o = rw (
-      c .before .before .before .before .before .before .before .before .before .wide .ensures,
-      c .before .before .before .before .before .before .before .wide2 .ensures,
-      added-is (c .before .before .before .before),
-      imposed-at (s .args .op .now) (s .args .left .now) (s .args .right .now) (s .args .number .now) (zoneIn (s .args .columns + 1) (l .d)) (l .k),
-    ) at (c .before .impose .ensures) in
-    let h = c .before .before .before .before .before .before .before .before .before .before .before .loop-test .taken in
-    stops _ _ _ _ _ (s .pre .listed) _ _ _ (l .inv .1) h (sym (o .0) ∙ not-true _ (c .if1 .taken)) _ (o .1))
+    let o = c .before .impose in
+    let a = c .before .before .before .before in
+    let s = c .before .before .before .before .before .before .before .before .before .before .before .before .before .before .before .before .args in
+    let is = imposed-at (s .op .now) (s .left .now) (s .right .now) (s .number .now) _ (c .before .before .before .before .before .before .before .before .before .before .before .before .loop .k) _ _ _ (ap (λ (n : ℕ). n + 1) (a .before .before .before .before .before .wide .ensures)) (a .before .before .before .wide2 .ensures) (added-is a) in
+    stops _ _ _ _ _ (c .before .before .before .before .before .before .before .before .before .before .before .before .before .before .before .before .pre .listed) _ _ _ (c .before .before .before .before .before .before .before .before .before .before .before .before .loop .inv .1) (c .before .before .before .before .before .before .before .before .before .before .before .loop-test .taken) _ is (sym (o .ensures .0) ∙ not-true _ (c .if1 .taken)) _ (o .ensures .1))
     (λ c. omega arith)
     (λ c. omega arith)
     (λ c.
-    let s = c .before .before .before .before .before .before .before .before .before .before .before .before .before .before .before .before in
-    let l = c .before .before .before .before .before .before .before .before .before .before .before .before .loop in
-    let o = rw (
-      c .before .before .before .before .before .before .before .before .before .wide .ensures,
-      c .before .before .before .before .before .before .before .wide2 .ensures,
-      added-is (c .before .before .before .before),
-      imposed-at (s .args .op .now) (s .args .left .now) (s .args .right .now) (s .args .number .now) (zoneIn (s .args .columns + 1) (l .d)) (l .k),
-    ) at (c .before .impose .ensures) in
-    let h = c .before .before .before .before .before .before .before .before .before .before .before .loop-test .taken in
-    (omega arith, goes-on _ _ _ _ _ (s .pre .listed) _ _ _ (l .inv .1) h (sym (o .0) ∙ not-false _ (c .if1 .left)) _ (o .1)))
+    let o = c .before .impose in
+    let a = c .before .before .before .before in
+    let s = c .before .before .before .before .before .before .before .before .before .before .before .before .before .before .before .before .args in
+    let is = imposed-at (s .op .now) (s .left .now) (s .right .now) (s .number .now) _ (c .before .before .before .before .before .before .before .before .before .before .before .before .loop .k) _ _ _ (ap (λ (n : ℕ). n + 1) (a .before .before .before .before .before .wide .ensures)) (a .before .before .before .wide2 .ensures) (added-is a) in
+    (omega arith, goes-on _ _ _ _ _ (c .before .before .before .before .before .before .before .before .before .before .before .before .before .before .before .before .pre .listed) _ _ _ (c .before .before .before .before .before .before .before .before .before .before .before .before .loop .inv .1) (c .before .before .before .before .before .before .before .before .before .before .before .loop-test .taken) _ is (sym (o .ensures .0) ∙ not-false _ (c .if1 .left)) _ (o .ensures .1)))
     (λ c. at-end _ _ _ _ _ (c .before .before .before .before .before .pre .listed) _ _ _ (c .before .loop .inv .1) (c .loop-test .left)))
