@@ -21,4 +21,5 @@ between-spec =
     (λ c. rw (c .one2 .ensures, c .before .match .keys2))
     (λ c. rw (c .match .keys3))
     (λ c. rw (c .one3 .ensures, c .before .match .keys4))
-    (λ c. rw (c .one4 .ensures, ne-eqb _ 0 (c .before .match .rest .0 .0 .0 .1), ne-eqb _ 1 (c .before .match .rest .0 .0 .1), ne-eqb _ 2 (c .before .match .rest .0 .1), ne-eqb _ 3 (c .before .match .rest .1))))
+    (λ c.
+    rw (c .one4 .ensures, ne-eqb _ 0 (c .before .match .rest .0 .0 .0 .1), ne-eqb _ 1 (c .before .match .rest .0 .0 .1), ne-eqb _ 2 (c .before .match .rest .0 .1), ne-eqb _ 3 (c .before .match .rest .1))))

@@ -1,3 +1,4 @@
+-- `solver::clear` meets its contract. Assumes nothing.
 use mathlib.Core.Path.{_≡_, sym, _∙_}
 use Prim.Native.Nat.{_-_, _≤_}
 use native.Mathlib.Omega.{arith}
@@ -25,6 +26,9 @@ clear-spec =
     (λ c. omega arith)
     (λ c. omega arith)
     (λ c. simp length-set (omega arith))
-    (λ c. (search needs, simp length-set (omega arith), agree-more (pos 0) (c .before .loop .i) (c .before .loop .row) (replicate (length (c .before .before .args .row .now)) (pos 0)) (pos 0) (c .loop-test .taken) (sym (getD-replicate (length (c .before .before .args .row .now)) (c .before .loop .i) (pos 0) (pos 0) (omega (arith, c .before .loop .inv, c .loop-test .taken)))) (c .before .loop .inv .2)))
+    (λ c.
+    (search needs, simp length-set (omega arith), agree-more (pos 0) (c .before .loop .i) (c .before .loop .row) (replicate (length (c .before .before .args .row .now)) (pos 0)) (pos 0) (c .loop-test .taken) (sym (getD-replicate (length (c .before .before .args .row .now)) (c .before .loop .i) (pos 0) (pos 0) (omega (arith, c .before .loop .inv, c .loop-test .taken)))) (c .before .loop .inv .2)))
     (λ c. search needs)
-    (λ c. let e = length-replicate (length (c .before .before .args .row .now)) (pos 0) in agree-all (pos 0) (c .before .loop .i) (c .before .loop .row) (replicate (length (c .before .before .args .row .now)) (pos 0)) (c .before .loop .inv .0 ∙ sym e) (omega (arith, e, c .before .loop .inv, c .loop-test .left)) (c .before .loop .inv .2)))
+    (λ c. let e = length-replicate (length (c .before .before .args .row .now)) (pos 0) in agree-all (pos 0) (c .before .loop .i)
+    (c .before .loop .row) (replicate (length (c .before .before .args .row .now)) (pos 0)) (c .before .loop .inv .0 ∙ sym e)
+    (omega (arith, e, c .before .loop .inv, c .loop-test .left)) (c .before .loop .inv .2)))

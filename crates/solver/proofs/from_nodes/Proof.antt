@@ -1,3 +1,4 @@
+-- `solver::from_nodes` meets its contract. Assumes nothing.
 use mathlib.Core.Path.{_≡_, sym, _∙_}
 use Prim.Native.Nat.{_-_, _≤_}
 use native.Mathlib.Omega.{arith}
@@ -41,10 +42,17 @@ from-nodes-spec =
     (λ c.
     let s = c .before .before .before .before .before .args in
     let u = c .before .before .before .before .before .pre in
-    let l = c .before .before .before .loop in
-    (search needs, simp length-set (omega arith), agree-more (pos 0) _ (l .row) (rowOf (s .x .now)) (toZ w32 (ofZ w32 (c .from-biased .result))) (c .before .before .loop-test .taken) (stored _ (c .from-biased .ok) ∙ c .from-biased .ensures ∙ sym (row-at (s .x .now) _ (omega (arith, u .size, l .inv, c .before .before .loop-test .taken)))) (l .inv .2)))
+    let l = c .before .before .before .loop in (
+      search needs,
+      simp length-set (omega arith),
+      agree-more (pos 0) _ (l .row) (rowOf (s .x .now)) (toZ w32 (ofZ w32 (c .from-biased .result)))
+          (c .before .before .loop-test .taken)
+          (stored _ (c .from-biased .ok) ∙ c .from-biased .ensures ∙ sym (row-at (s .x .now) _ (omega (arith, u .size, l .inv, c .before .before .loop-test .taken))))
+          (l .inv .2),
+    ))
     (λ c. search needs)
     (λ c.
     let s = c .before .before .before .args in
     let u = c .before .before .before .pre in
-    let e = row-length (s .x .now) (length (s .row .now)) (u .size) in agree-all (pos 0) _ _ (rowOf (s .x .now)) (c .before .loop .inv .0 ∙ sym e) (omega (arith, e, c .before .loop .inv, c .loop-test .left)) (c .before .loop .inv .2)))
+    let e = row-length (s .x .now) (length (s .row .now)) (u .size) in agree-all (pos 0) _ _ (rowOf (s .x .now)) (c .before .loop .inv .0 ∙ sym e)
+    (omega (arith, e, c .before .loop .inv, c .loop-test .left)) (c .before .loop .inv .2)))

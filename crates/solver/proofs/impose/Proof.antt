@@ -13,34 +13,37 @@ impose-spec =
     (tie.spec
     (λ c κs. search needs)
     (λ c κs.
-    let s = c .before .before .before .before .before .before .args in
-    let u = c .before .before .before .before .before .before .pre in
-    first-constrains _ _ (opAt (s .op)) _ _ _ u _ (c .before .before .before .before .before .between .ensures))
+    let b = c .before .before .before .before .before in
+    first-constrains _ _ (opAt (b .before .args .op)) _ _ _ (b .before .pre) _ (b .between .ensures))
     (λ c.
-    let s = c .before .before .before .before .before .before .before .args in
-    let u = c .before .before .before .before .before .before .before .pre in
-    one-outcome _ _ (opAt (s .op)) _ _ _ u _ (c .before .before .before .before .before .before .between .ensures) (not-true _ (c .before .before .if1 .taken)) _ _ (c .constrain .ensures .0) (c .constrain .ensures .1))
+    let b = c .before .before .before .before .before .before in
+    one-outcome _ _ (opAt (b .before .args .op)) _ _ _ (b .before .pre) _ (b .between .ensures)
+    (not-true _ (c .before .before .if1 .taken)) _ _ (c .constrain .ensures .0) (c .constrain .ensures .1))
     (λ c κs.
-    let s = c .before .before .before .before .before .before .args in
-    let u = c .before .before .before .before .before .before .pre in
-    second-constrains _ _ (opAt (s .op)) _ _ _ u _ (c .before .before .before .before .before .between .ensures))
+    let b = c .before .before .before .before .before in
+    second-constrains _ _ (opAt (b .before .args .op)) _ _ _ (b .before .pre) _ (b .between .ensures))
     (λ c.
-    let s = c .before .before .before .before .before .before .before .before .args in
-    let u = c .before .before .before .before .before .before .before .before .pre in
-    second-outcome _ _ (opAt (s .op)) _ _ _ u _ (c .before .before .before .before .before .before .before .between .ensures) (not-false _ (c .before .before .before .if1 .left)) (sym (c .before .allows .ensures) ∙ not-true _ (c .if2 .taken)))
+    let b = c .before .before .before .before .before .before .before in
+    second-outcome _ _ (opAt (b .before .args .op)) _ _ _ (b .before .pre) _ (b .between .ensures)
+    (not-false _ (c .before .before .before .if1 .left)) (sym (c .before .allows .ensures) ∙ not-true _ (c .if2 .taken)))
     (λ c κs.
-    let s = c .before .before .before .before .before .before .before .before .before .args in
-    let u = c .before .before .before .before .before .before .before .before .before .pre in
-    first-constrains _ _ (opAt (s .op)) _ _ _ u _ (c .before .before .before .before .before .before .before .before .between .ensures))
+    let b = c .before .before .before .before .before .before .before .before in
+    first-constrains _ _ (opAt (b .before .args .op)) _ _ _ (b .before .pre) _ (b .between .ensures))
     (λ c.
-    let s = c .before .before .before .before .before .before .before .before .before .before .before .args in
-    let u = c .before .before .before .before .before .before .before .before .before .before .before .pre in
-    first-outcome _ _ (opAt (s .op)) _ _ _ u _ (c .before .before .before .before .before .before .before .before .before .before .between .ensures) (not-false _ (c .before .before .before .before .before .before .if1 .left)) (sym (c .before .constrain2 .ensures .0) ∙ not-true _ (c .if3 .taken)) _ (c .before .constrain2 .ensures .1))
+    let b = c .before .before .before .before .before .before .before .before .before .before in
+    first-outcome _ _ (opAt (b .before .args .op)) _ _ _ (b .before .pre) _ (b .between .ensures)
+    (not-false _ (c .before .before .before .before .before .before .if1 .left))
+    (sym (c .before .constrain2 .ensures .0) ∙ not-true _ (c .if3 .taken)) _ (c .before .constrain2 .ensures .1))
     (λ c κs.
-    let s = c .before .before .before .before .before .before .before .before .before .before .before .before .args in
-    let u = c .before .before .before .before .before .before .before .before .before .before .before .before .pre in
-    next-constrains _ _ (opAt (s .op)) _ _ _ u _ (c .before .before .before .before .before .before .before .before .before .before .before .between .ensures) (not-false _ (c .before .before .before .before .before .before .before .if1 .left)) (sym (c .before .before .constrain2 .ensures .0) ∙ not-false _ (c .before .if3 .left)) _ (c .before .before .constrain2 .ensures .1))
+    let b = c .before .before .before .before .before .before .before .before .before .before .before in
+    next-constrains _ _ (opAt (b .before .args .op)) _ _ _ (b .before .pre) _ (b .between .ensures)
+    (not-false _ (c .before .before .before .before .before .before .before .if1 .left))
+    (sym (c .before .before .constrain2 .ensures .0) ∙ not-false _ (c .before .if3 .left)) _ (c .before .before .constrain2 .ensures .1))
     (λ c.
-    let s = c .before .before .before .before .before .before .before .before .before .before .before .before .before .args in
-    let u = c .before .before .before .before .before .before .before .before .before .before .before .before .before .pre in
-    both-outcome _ _ (opAt (s .op)) _ _ _ u _ (c .before .before .before .before .before .before .before .before .before .before .before .before .between .ensures) (not-false _ (c .before .before .before .before .before .before .before .before .if1 .left)) (sym (c .before .before .before .constrain2 .ensures .0) ∙ not-false _ (c .before .before .if3 .left)) _ (c .before .before .before .constrain2 .ensures .1) (sym (c .before .before .before .before .before .before .allows .ensures) ∙ not-false _ (c .before .before .before .before .before .if2 .left)) _ _ (c .constrain3 .ensures .0) (c .constrain3 .ensures .1)))
+    let b = c .before .before .before .before .before .before .before .before .before .before .before .before in
+    both-outcome _ _ (opAt (b .before .args .op)) _ _ _ (b .before .pre) _ (b .between .ensures)
+    (not-false _ (c .before .before .before .before .before .before .before .before .if1 .left))
+    (sym (c .before .before .before .constrain2 .ensures .0) ∙ not-false _ (c .before .before .if3 .left)) _
+    (c .before .before .before .constrain2 .ensures .1)
+    (sym (c .before .before .before .before .before .before .allows .ensures) ∙ not-false _ (c .before .before .before .before .before .if2 .left)) _
+    _ (c .constrain3 .ensures .0) (c .constrain3 .ensures .1)))

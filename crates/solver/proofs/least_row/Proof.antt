@@ -1,3 +1,4 @@
+-- `solver::least_row` meets its contract. Assumes nothing.
 use mathlib.Core.Path.{refl, sym, _∙_}
 use lib.ListN.{replicate}
 use borrow.Author.Needs.{needs}
@@ -15,13 +16,18 @@ least-row-spec =
     imposes _ _ _ _ _ _ _ u (replicate 1089 0) refl _ (c .before .set-bounds .ensures .0))
     (λ c κs.
     let u = c .before .before .before .before .before .before .before .before .before .before .pre in
-    least-room _ _ _ _ _ _ _ u (replicate 1089 0) refl _ (c .before .before .before .before .before .set-bounds .ensures .0) (sym (c .before .before .before .impose-all .ensures .0) ∙ c .before .before .if1 .taken) _ (c .before .before .before .impose-all .ensures .1) (c .before .before .before .before .before .set-bounds .ensures .1 .0) (c .before .before .before .before .before .set-bounds .ensures .1 .1))
+    least-room _ _ _ _ _ _ _ u (replicate 1089 0) refl _ (c .before .before .before .before .before .set-bounds .ensures .0) (sym
+    (c .before .before .before .impose-all .ensures .0) ∙ c .before .before .if1 .taken) _ (c .before .before .before .impose-all .ensures .1) (c
+    .before .before .before .before .before .set-bounds .ensures .1 .0) (c .before .before .before .before .before .set-bounds .ensures .1 .1))
     (λ c. search needs)
     (λ c.
     let u = c .before .before .before .before .before .before .before .before .before .before .before .before .pre in
-    row-written _ _ _ _ _ _ _ u (replicate 1089 0) refl _ (c .before .before .before .before .before .before .before .set-bounds .ensures .0) (sym (c .before .before .before .before .before .impose-all .ensures .0) ∙ c .before .before .before .before .if1 .taken) _ (c .before .before .before .before .before .impose-all .ensures .1) _ (c .before .read-least .ensures))
+    row-written _ _ _ _ _ _ _ u (replicate 1089 0) refl _ (c .before .before .before .before .before .before .before .set-bounds .ensures .0) (sym
+    (c .before .before .before .before .before .impose-all .ensures .0) ∙ c .before .before .before .before .if1 .taken) _ (c .before .before .before
+    .before .before .impose-all .ensures .1) _ (c .before .read-least .ensures))
     (λ c κs. search needs)
     (λ c. search needs)
     (λ c.
     let u = c .before .before .before .before .before .before .before .before .before .before .before .pre in
-    none-written _ _ _ _ _ _ _ u (replicate 1089 0) refl _ (c .before .before .before .before .before .before .set-bounds .ensures .0) (sym (c .before .before .before .before .impose-all .ensures .0) ∙ c .before .before .before .if1 .left) _ (c .before .clear .ensures)))
+    none-written _ _ _ _ _ _ _ u (replicate 1089 0) refl _ (c .before .before .before .before .before .before .set-bounds .ensures .0) (sym
+    (c .before .before .before .before .impose-all .ensures .0) ∙ c .before .before .before .if1 .left) _ (c .before .clear .ensures)))

@@ -1,3 +1,4 @@
+-- `solver::set_bounds` meets its contract. Assumes nothing.
 use mathlib.Core.Path.{refl, sym, ap, _∙_}
 use Prim.Native.Nat.{ℕ, _+_}
 use native.Mathlib.Omega.{arith}
@@ -30,16 +31,27 @@ set-bounds-spec =
     (λ c.
     let s = c .before .before .before .before .before .before .before .before .args in
     let u = c .before .before .before .before .before .before .before .before .pre in
-    part-fits (s .hi .now) _ (ap (λ (n : ℕ). n + 1) (u .same)) _ (drop (length (s .lo .now) + 1) (replicate 33 0)) (c .before .before .before .to-nodes2 .ensures .0))
+    part-fits (s .hi .now) _ (ap (λ (n : ℕ). n + 1) (u .same)) _ (drop (length (s .lo .now) + 1) (replicate 33 0)) (c .before .before .before
+    .to-nodes2 .ensures .0))
     (λ c.
     let s = c .before .before .before .before .before .before .before .before .before .args in
     let u = c .before .before .before .before .before .before .before .before .before .pre in
-    part-size (s .hi .now) _ (ap (λ (n : ℕ). n + 1) (u .same)) _ (drop (length (s .lo .now) + 1) (replicate 33 0)) (c .before .before .before .before .to-nodes2 .ensures .0))
+    part-size (s .hi .now) _ (ap (λ (n : ℕ). n + 1) (u .same)) _ (drop (length (s .lo .now) + 1) (replicate 33 0)) (c .before .before .before .before
+    .to-nodes2 .ensures .0))
     (λ c κs.
     let s = c .before .before .before .before .before .before .before .before .before .args in
     let u = c .before .before .before .before .before .before .before .before .before .pre in
-    rw (part-is (s .lo .now) (length _ + 1) refl _ (drop (length _ + 1) (replicate 33 0)) (c .before .before .before .before .before .before .before .to-nodes .ensures .0), part-is (s .hi .now) (length _ + 1) (ap (λ (n : ℕ). n + 1) (u .same)) _ (drop (length _ + 1) (replicate 33 0)) (c .before .before .before .before .to-nodes2 .ensures .0)) (box-room _ _ _ u))
+    rw (
+      part-is (s .lo .now) (length _ + 1) refl _ (drop (length _ + 1) (replicate 33 0))
+          (c .before .before .before .before .before .before .before .to-nodes .ensures .0),
+      part-is (s .hi .now) (length _ + 1)
+          (ap (λ (n : ℕ). n + 1) (u .same)) _ (drop (length _ + 1) (replicate 33 0)) (c .before .before .before .before .to-nodes2 .ensures .0),
+    ) (box-room _
+    _ _ u))
     (λ c.
     let s = c .before .before .before .before .before .before .before .before .before .before .args in
-    let u = c .before .before .before .before .before .before .before .before .before .before .pre in
-    (c .set-box .ensures ∙ rw (part-is (s .lo .now) (length _ + 1) refl _ (drop (length _ + 1) (replicate 33 0)) (c .before .before .before .before .before .before .before .before .to-nodes .ensures .0), part-is (s .hi .now) (length _ + 1) (ap (λ (n : ℕ). n + 1) (u .same)) _ (drop (length _ + 1) (replicate 33 0)) (c .before .before .before .before .before .to-nodes2 .ensures .0), box-is _ _ _ u), (c .before .before .before .before .before .before .before .before .to-nodes .ensures .1, c .before .before .before .before .before .to-nodes2 .ensures .1))))
+    let u = c .before .before .before .before .before .before .before .before .before .before .pre in (
+      c .set-box .ensures ∙
+          rw (part-is (s .lo .now) (length _ + 1) refl _ (drop (length _ + 1) (replicate 33 0)) (c .before .before .before .before .before .before .before .before .to-nodes .ensures .0), part-is (s .hi .now) (length _ + 1) (ap (λ (n : ℕ). n + 1) (u .same)) _ (drop (length _ + 1) (replicate 33 0)) (c .before .before .before .before .before .to-nodes2 .ensures .0), box-is _ _ _ u),
+      (c .before .before .before .before .before .before .before .before .to-nodes .ensures .1, c .before .before .before .before .before .to-nodes2 .ensures .1),
+    )))
