@@ -59,10 +59,6 @@ module _ (z : Zone) (a b w : ℕ) (cl : Closed z) (a-in : a < length z) (b-in : 
       allows-is (tightened z there) back .1
       (omega (arith, allows-is z back .0 t, tight-entry z there cl a-in b-in s a b a-in b-in, cl .diagonal a a-in, cl .diagonal b b-in))
 
-  pub pair-some : T (allows z there) → T (allows z back) → constrainedBy z (there ∷ back ∷ []) ≡ some (tightened (tightened z there) back)
-  unfolding constrained
-  pair-some s t = rw (T-is (allows z there) s, T-is (allows (tightened z there) back) (back-allowed s t))
-
 -- ---- a comparison of two nodes
 some-allows : (z : Zone) (c : Constraint) → isSome (constrained z c) ≡ allows z c
 unfolding constrained
