@@ -16,7 +16,8 @@ use Rattle.model.specs.Lists.{allOf, pairwise}
 use Rattle.model.specs.Least.{leastRow}
 use Rattle.zone.specs.Matrix.{tabulate, at}
 use Rattle.solver.specs.Solver.{fits, boundsFit, againstFits, comparisonFits}
-use Rattle.solver.specs.Lists.{boundsOf, comparisonsOf, opAt, sideOf, rowOrZeros, isSome}
+use Rattle.solver.specs.Lists.{boundsOf, comparisonsOf, rowOrZeros, isSome}
+use Rattle.model.specs.Coded.{opAt, sideOf}
 use Rattle.solver.specs.Uses.{Solves}
 use Rattle.solver.proofs.Progress.{all-at}
 use Rattle.listform.specs.Form.{valuesAt, allBelow, lows, highs, ops, lefts, rights, numbers, Parts, fitting, isList, least, codeOf, Solved}

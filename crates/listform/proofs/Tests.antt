@@ -1,48 +1,11 @@
--- Tests of each element in turn: `left` says that what is left of a list decides. Assumes nothing.
+-- "At most" by the test of "less". Assumes nothing.
 use mathlib.Core.Path.{_≡_, sym, _∙_}
-use mathlib.Core.Bool.{Bool, true, false}
-use mathlib.Core.List.{List}
-use Prim.Native.Nat.{ℕ, _+_, _<_, _≤_}
-use native.Mathlib.Numerals.{add-one}
-use native.Mathlib.Omega.{arith}
-use lib.ListN.{length, getD, drop, drop-of-length-le}
-use lib.Seq.{drop-cons}
+use mathlib.Core.Bool.{true, false}
 use lib.IntN.{ℤ}
 use lib.Signed.{leZ, ltZ}
 use borrow.Author.Tests.{not-true, not-false}
 use Rattle.words.proofs.Order.{ltZ-not}
-use Rattle.model.specs.Lists.{allOf, pairwise}
 
--- ---- of one list
-module _ {A : Type 0} (p : A → Bool) (d : A) (xs : List A) (i : ℕ) (left : allOf p (drop i xs) ≡ allOf p xs) where
-  pub all-fails : i < length xs → p (getD xs i d) ≡ false → false ≡ allOf p xs
-  all-fails h e = rw (drop-cons xs i d h, e) at left
-
-  pub all-more : i < length xs → p (getD xs i d) ≡ true → allOf p (drop (i + 1) xs) ≡ allOf p xs
-  all-more h e = rw (add-one i) (rw (drop-cons xs i d h, e) at left)
-
-  pub all-done : length xs ≤ i → true ≡ allOf p xs
-  all-done h = rw (drop-of-length-le xs h) at left
-
--- ---- of two lists, place by place
-module _ {A B : Type 0} (p : A → B → Bool) (d : A) (e : B) (xs : List A) (ys : List B) (same : length ys ≡ length xs) (i : ℕ) where
-  module _ (left : pairwise p (drop i xs) (drop i ys) ≡ pairwise p xs ys) where
-    pub pairs-fail : i < length xs → p (getD xs i d) (getD ys i e) ≡ false → false ≡ pairwise p xs ys
-    pairs-fail h f =
-        let k : i < length ys = omega arith in
-        rw (drop-cons xs i d h, drop-cons ys i e k, f) at left
-
-    pub pairs-more : i < length xs → p (getD xs i d) (getD ys i e) ≡ true → pairwise p (drop (i + 1) xs) (drop (i + 1) ys) ≡ pairwise p xs ys
-    pairs-more h f =
-        let k : i < length ys = omega arith in
-        rw (add-one i) (rw (drop-cons xs i d h, drop-cons ys i e k, f) at left)
-
-    pub pairs-done : length xs ≤ i → true ≡ pairwise p xs ys
-    pairs-done h =
-        let k : length ys ≤ i = omega arith in
-        rw (drop-of-length-le xs h, drop-of-length-le ys k) at left
-
--- ---- at most, by the test of less
 pub more-not : (a b : ℤ) → ltZ b a ≡ true → leZ a b ≡ false
 more-not a b e = not-true (leZ a b) (sym (ltZ-not b a) ∙ e)
 

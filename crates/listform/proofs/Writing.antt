@@ -1,6 +1,6 @@
 -- A row that is written value by value. Assumes nothing.
 use mathlib.Core.Path.{_≡_, refl, _∙_}
-use mathlib.Core.List.{List, [], _∷_, _++_, append-assoc, append-nil}
+use mathlib.Core.List.{List, [], _∷_, _++_, append-nil}
 use Prim.Native.Nat.{ℕ, _+_, _*_, _<_, _≤_}
 use native.Mathlib.Numerals.{add-one}
 use native.Mathlib.Omega.{arith}
@@ -9,14 +9,11 @@ use lib.Seq.{take-suc, take-all, take-at, length-take-le}
 use lib.IntN.{ℤ, pos}
 use Rattle.words.specs.Word.{encoded, withValue}
 use Rattle.model.specs.Lists.{flatMap}
+use Rattle.model.proofs.Lists.{flatMap-append}
 
 module _ {A B : Type 0} (f : A → List B) where
-  flat-append : (xs ys : List A) → flatMap (xs ++ ys) f ≡ flatMap xs f ++ flatMap ys f
-  flat-append [] ys = refl
-  flat-append (x ∷ xs) ys = rw (flat-append xs ys, append-assoc)
-
   pub flat-more : (xs : List A) (i : ℕ) (d : A) → i < length xs → flatMap (take (i + 1) xs) f ≡ flatMap (take i xs) f ++ f (getD xs i d)
-  flat-more xs i d h = rw (add-one i, take-suc xs i d h) (flat-append (take i xs) (getD xs i d ∷ []) ∙ rw append-nil)
+  flat-more xs i d h = rw (add-one i, take-suc xs i d h) (flatMap-append (take i xs) (getD xs i d ∷ []) f ∙ rw append-nil)
 
 -- one value more in the part that is written
 pub put-more : (first : ℕ) (row : List ℤ) (i : ℕ) (out : List ℕ) (v : ℤ)

@@ -1,5 +1,6 @@
 pub mod Samples
 pub mod Lists
+pub mod Turns
 pub mod Rows
 pub mod Combinations
 pub mod Scope

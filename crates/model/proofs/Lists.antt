@@ -2,7 +2,7 @@
 use mathlib.Core.Path.{_≡_, refl, sym, ap, _∙_}
 use mathlib.Core.Logic.{_⊎_, inl, inr}
 use mathlib.Core.Bool.{Bool, true, false, not, cond, _||_}
-use mathlib.Core.List.{List, [], _∷_, _++_, List·Memᴰ·head, List·Memᴰ·tail, List·Memᴰ·not-nil, List·Memᴰ·cases-cons, List·Memᴰ·append-cases, Memᴰ·append-left, Memᴰ·append-right}
+use mathlib.Core.List.{List, [], _∷_, _++_, append-assoc, List·Memᴰ·head, List·Memᴰ·tail, List·Memᴰ·not-nil, List·Memᴰ·cases-cons, List·Memᴰ·append-cases, Memᴰ·append-left, Memᴰ·append-right}
 use Prim.Native.Nat.{suc}
 use lib.ListN.{length, take, drop}
 use mathlib.Core.Option.{none, some, Option·none-ne-some, Option·some-injective}
@@ -155,6 +155,10 @@ module _ {A B : Type 0} where
   pub flatMap-nil : (xs : List A) → flatMap {B = B} xs (λ x. []) ≡ []
   flatMap-nil [] = refl
   flatMap-nil (x ∷ xs) = flatMap-nil xs
+
+  pub flatMap-append : (xs ys : List A) (f : A → List B) → flatMap (xs ++ ys) f ≡ flatMap xs f ++ flatMap ys f
+  flatMap-append [] ys f = refl
+  flatMap-append (x ∷ xs) ys f = rw (flatMap-append xs ys f) (sym (append-assoc (f x) (flatMap xs f) (flatMap ys f)))
 
 -- ---- place by place
 module _ {A B : Type 0} (p : A → B → Bool) where

@@ -1,5 +1,6 @@
 pub mod Lists
 pub mod Tables
+pub mod Coded
 pub mod WellFormed
 pub mod Rows
 pub mod Least

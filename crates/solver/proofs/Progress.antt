@@ -24,7 +24,8 @@ use Rattle.zone.proofs.Laid.{laid-is, laid-in-array}
 use Rattle.zone.proofs.Answers.{Answers}
 use Rattle.solver.specs.Comparisons.{nodeOf, addedTo, listOf, between, constraintsOf}
 use Rattle.solver.specs.Solver.{comparisonFits, againstFits, imposedBy, imposed, imposedAll}
-use Rattle.solver.specs.Lists.{opAt, sideOf, comparisonsOf, isSome, reached}
+use Rattle.model.specs.Coded.{opAt, sideOf}
+use Rattle.solver.specs.Lists.{comparisonsOf, isSome, reached}
 use Rattle.solver.specs.Uses.{Imposes, Listed}
 use Rattle.solver.proofs.Comparisons.{ObeysAll, added-some, added-most}
 use Rattle.solver.proofs.Solver.{imposed-answers}

@@ -4,32 +4,20 @@ use mathlib.Core.Logic.{_↔_}
 use mathlib.Core.Bool.{not}
 use mathlib.Core.List.{List}
 use mathlib.Core.Option.{Option, none, some}
-use Prim.Native.Nat.{ℕ, zero, suc, _≤_}
-use native.Mathlib.Omega.{arith}
+use Prim.Native.Nat.{ℕ, suc}
 use lib.ListN.{length}
 use lib.Dec.{T}
-use Rattle.words.specs.Compare.{opOf}
 use Rattle.model.specs.Lists.{allOf}
 use Rattle.model.specs.Tables.{Bounds, Row, Comparison, within, comparisonHolds, clauseHolds}
 use Rattle.model.specs.Least.{leastRow}
 use Rattle.zone.specs.Zone.{Zone, Meets, Closed, leastOf}
 use Rattle.zone.proofs.Closed.{least-meets}
 use Rattle.solver.specs.Comparisons.{listOf, constraintsOf, negationsOf}
-use Rattle.solver.specs.Lists.{opAt}
 use Rattle.solver.specs.Solver.{boundsFit, comparisonFits, solvable, nodes, rowOf, zoneOf, solution}
 use Rattle.solver.proofs.Comparisons as comparisons
 use Rattle.solver.proofs.Comparisons.{ObeysAll, ObeysSome}
 use Rattle.solver.proofs.Nodes.{row-meets, meets-row, nodes-length}
 use Rattle.solver.proofs.Solver.{parts, zone-answers, list-says, solution-least}
-
--- ---- the numbers of ops are document 01's
-pub op-at : (n : ℕ) → n ≤ 4 → opOf n ≡ some (opAt n)
-op-at zero h = refl
-op-at (suc zero) h = refl
-op-at (suc (suc zero)) h = refl
-op-at (suc (suc (suc zero))) h = refl
-op-at (suc (suc (suc (suc zero)))) h = refl
-op-at (suc (suc (suc (suc (suc n))))) h = absurd (omega arith)
 
 -- ---- a comparison and its constraints, of a row within bounds
 module _ (bs : List Bounds) (fit : T (allOf boundsFit bs)) (r : Row) (w : T (within bs r)) (k : Comparison) (f : T (comparisonFits (length bs) k)) where

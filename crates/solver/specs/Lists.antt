@@ -1,13 +1,12 @@
 -- Bounds, rows and comparisons as the code is given them: a list for each part.
-use mathlib.Core.Bool.{Bool, true, false, cond}
+use mathlib.Core.Bool.{Bool, true, false}
 use mathlib.Core.List.{List, [], _∷_}
 use mathlib.Core.Option.{Option, none, some}
-use Prim.Native.Nat.{ℕ, _-_}
+use Prim.Native.Nat.{ℕ}
 use lib.ListN.{length, getD, replicate}
 use lib.IntN.{ℤ, pos}
-use lib.Dec.{eqb}
-use Rattle.words.specs.Compare.{Op, less, atMost, equal, atLeast, more}
-use Rattle.model.specs.Tables.{Bounds, Row, Against, column, number, Comparison}
+use Rattle.model.specs.Tables.{Bounds, Row, Comparison}
+use Rattle.model.specs.Coded.{opAt, sideOf}
 use Rattle.zone.specs.Matrix.{tabulate, at}
 use Rattle.zone.specs.Zone.{Zone}
 use Rattle.solver.specs.Solver.{imposed}
@@ -16,14 +15,6 @@ abbrev pub boundsOf : List ℤ → List ℤ → List Bounds
 boundsOf [] his = []
 boundsOf (lo ∷ los) [] = []
 boundsOf (lo ∷ los) (hi ∷ his) = record { lo = lo; hi = hi } ∷ boundsOf los his
-
--- the op that a number from 0 to 4 stands for
-abbrev pub opAt : ℕ → Op
-opAt n = cond (eqb n 0) less (cond (eqb n 1) atMost (cond (eqb n 2) equal (cond (eqb n 3) atLeast more)))
-
--- the right side: with 0 the number, else the column one below
-abbrev pub sideOf : ℕ → ℤ → Against
-sideOf r v = cond (eqb r 0) (number v) (column (r - 1))
 
 unfoldable pub comparisonsOf : List ℕ → List ℕ → List ℕ → List ℤ → List Comparison
 comparisonsOf ops lefts rights numbers = tabulate (length ops) (λ i.

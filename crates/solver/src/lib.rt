@@ -9,7 +9,8 @@ ghost use Rattle.zone.specs.Array.{zoneIn, laid};
 ghost use Rattle.solver.specs.Solver.{nodes, rowOf, boxOf, imposedBy, imposedAll};
 ghost use Rattle.solver.specs.Uses.{Words, WordNodes, BoundsRoom, Imposes, ImposesAll, LeastRoom, Solves};
 ghost use Rattle.solver.specs.Comparisons.{addedTo, atMostBy, one, between, against};
-ghost use Rattle.solver.specs.Lists.{opAt, sideOf, boundsOf, comparisonsOf, isSome, reached, rowOrZeros};
+ghost use Rattle.model.specs.Coded.{opAt, sideOf};
+ghost use Rattle.solver.specs.Lists.{boundsOf, comparisonsOf, isSome, reached, rowOrZeros};
 use zone::Constraint;
 
 // The ops that stand for a failed one.

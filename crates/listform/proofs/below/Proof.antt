@@ -7,7 +7,7 @@ use lib.Dec.{ltb}
 use borrow.Author.Needs.{needs}
 use borrow.Author.Tests.{le-ltb, lt-ltb}
 use Rattle.listform.specs.Form.{allBelow}
-use Rattle.listform.proofs.Tests.{all-fails, all-more, all-done}
+use Rattle.model.proofs.Turns.{all-fails, all-more, all-done}
 use Rattle.listform.proofs.below.Statement.{statement}
 use Rattle.listform.proofs.below.Tie as tie
 

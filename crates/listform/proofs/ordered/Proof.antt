@@ -8,7 +8,8 @@ use lib.Signed.{leZ}
 use borrow.Author.Needs.{needs}
 use Rattle.words.proofs.Stored.{stored}
 use Rattle.model.specs.Lists.{pairwise}
-use Rattle.listform.proofs.Tests.{pairs-fail, pairs-more, pairs-done, more-not, not-more}
+use Rattle.model.proofs.Turns.{pairs-fail, pairs-more, pairs-done}
+use Rattle.listform.proofs.Tests.{more-not, not-more}
 use Rattle.listform.proofs.ordered.Statement.{statement}
 use Rattle.listform.proofs.ordered.Tie as tie
 

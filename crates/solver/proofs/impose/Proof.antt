@@ -2,7 +2,7 @@
 use mathlib.Core.Path.{sym, _∙_}
 use borrow.Author.Needs.{needs}
 use borrow.Author.Tests.{not-true, not-false}
-use Rattle.solver.specs.Lists.{opAt}
+use Rattle.model.specs.Coded.{opAt}
 use Rattle.solver.proofs.Imposing.{first-constrains, second-constrains, next-constrains, one-outcome, first-outcome, second-outcome, both-outcome}
 use Rattle.solver.proofs.impose.Statement.{statement}
 use Rattle.solver.proofs.impose.Tie as tie

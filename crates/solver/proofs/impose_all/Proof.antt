@@ -9,7 +9,7 @@ use borrow.Author.Tests.{not-true, not-false}
 use Rattle.words.proofs.Stored.{stored}
 use Rattle.zone.specs.Matrix.{at}
 use Rattle.solver.specs.Comparisons.{addedTo}
-use Rattle.solver.specs.Lists.{sideOf}
+use Rattle.model.specs.Coded.{sideOf}
 use Rattle.solver.proofs.Progress.{Progress, imposes-at, imposed-at, at-start, at-end, stops, goes-on}
 use Rattle.solver.proofs.impose_all.Statement.{statement}
 use Rattle.solver.proofs.impose_all.Tie as tie
