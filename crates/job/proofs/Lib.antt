@@ -1,0 +1,4 @@
+pub mod Meaning
+pub mod Alike
+pub mod Equal
+pub mod Tidy
