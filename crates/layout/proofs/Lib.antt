@@ -1,0 +1,13 @@
+pub mod Samples
+pub mod Sound
+pub mod Growing
+pub mod Given
+pub mod Keeps
+pub mod Ends
+pub mod Entries
+pub mod Back
+pub mod Taken
+pub mod Written
+pub mod Reaches
+pub mod Complete
+pub mod Theorems
