@@ -1,0 +1,14 @@
+pub mod Tests
+pub mod Bytes
+pub mod Laid
+pub mod Rooms
+pub mod Looks
+pub mod Keeping
+pub mod Entries
+pub mod Steps
+pub mod Turns
+pub mod Puts
+pub mod Written
+pub mod Records
+pub mod Meant
+pub mod Most

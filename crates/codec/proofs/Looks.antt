@@ -1,0 +1,75 @@
+-- Tests on the record of a job are the tests on the job. Assumes nothing.
+use mathlib.Core.Path.{_≡_, refl, sym, ap, _∙_}
+use mathlib.Core.Bool.{Bool, true, false, _&&_, _||_}
+use mathlib.Core.List.{List, [], _∷_}
+use Prim.Native.Nat.{ℕ, zero, suc, _-_, _<_}
+use native.Mathlib.Nat.{zero-add}
+use native.Mathlib.Numerals.{sub-one}
+use native.Mathlib.Omega.{arith}
+use lib.ListN.{length, getD, take}
+use lib.Dec.{eqb, ltb}
+use borrow.Author.Tests.{eq-eqb, ne-eqb, ltb-true}
+use Rattle.model.specs.Lists.{anyOf}
+use Rattle.model.specs.Tables as model
+use Rattle.model.specs.Tables.{Table, columnsOf, tableOf, uses}
+use Rattle.model.specs.WellFormed.{inScope}
+use Rattle.job.specs.declared.Column.{Column}
+use Rattle.job.specs.declared.Clause.{Clause}
+use Rattle.job.specs.Record.{padded, noColumn}
+use Rattle.job.specs.Meaning.{columnRecords, expressionRecord, recordOf}
+use Rattle.job.proofs.Meaning.{take-padded, columns-length}
+use Rattle.layout.specs.Reading.{lastOf, aboveLast}
+use Rattle.codec.specs.Uses.{lastSize, scopedIn, aboveIn}
+use Rattle.codec.proofs.Laid.{getD-padded, column-table, last-laid}
+
+last-above : (l : List ℕ) (i t : ℕ) → suc i ≡ length l → ltb (getD l i 0) t ≡ aboveLast l t
+last-above [] i t e = absurd (omega arith)
+last-above (x ∷ []) zero t e = refl
+last-above (x ∷ []) (suc i) t e = absurd (omega arith)
+last-above (x ∷ y ∷ l) zero t e = absurd (omega arith)
+last-above (x ∷ y ∷ l) (suc i) t e = last-above (y ∷ l) i t (omega arith)
+
+above-list : (l : List ℕ) (t : ℕ) → (eqb (length l) 0 || ltb (getD (padded 4 0 l) (length l - 1) 0) t) ≡ aboveLast l t
+above-list [] t = refl
+above-list (x ∷ l) t =
+    rw (ne-eqb (suc (length l)) 0 (λ e. omega arith), sub-one, getD-padded 4 0 (x ∷ l) (length l) 0 (omega arith)) (last-above (x ∷ l) (length l) t refl)
+
+pub above-is : (e : model.Expression) (t : ℕ) → aboveIn (expressionRecord e) t ≡ aboveLast (e .used) t
+unfolding expressionRecord
+above-is e t = above-list (e .used) t
+
+pub outputs-are : (e : model.Expression) → take (expressionRecord e .width) (expressionRecord e .outputs) ≡ e .outputs
+unfolding expressionRecord
+outputs-are e = take-padded 16 0 (e .outputs) _ refl
+
+used-are : (e : model.Expression) → take (expressionRecord e .tables) (expressionRecord e .used) ≡ e .used
+unfolding expressionRecord
+used-are e = take-padded 4 0 (e .used) _ refl
+
+column-of : (ts : List Table) (c : ℕ) (d : Column) → c < length (columnsOf ts) → getD (padded 16 noColumn (columnRecords 0 ts)) c d .table ≡ tableOf ts c
+column-of ts c d h =
+    ap (λ (k : Column). k .table) (getD-padded 16 noColumn (columnRecords 0 ts) c d (rw (columns-length 0 ts) h))
+    ∙ column-table 0 ts c d h ∙ zero-add (tableOf ts c)
+
+pub scoped-is : (j : model.Job) (e : model.Expression) (c : ℕ) → scopedIn (recordOf j) (expressionRecord e) c ≡ inScope (j .tables) e c
+unfolding recordOf uses
+scoped-is j e c = rw (used-are e) (go (ltb c (length (columnsOf (j .tables)))) refl)
+  where
+    table : ℕ
+    table = getD (padded 16 noColumn (columnRecords 0 (j .tables))) c noColumn .table
+
+    go : (b : Bool) → ltb c (length (columnsOf (j .tables))) ≡ b
+        → (b && anyOf (eqb table) (e .used)) ≡ (b && anyOf (eqb (tableOf (j .tables) c)) (e .used))
+    go true h = ap (λ (t : ℕ). anyOf (eqb t) (e .used)) (column-of (j .tables) c noColumn (ltb-true c (length (columnsOf (j .tables))) h))
+    go false h = refl
+
+-- the number of comparisons in the last clause
+pub last-size-is : (e : model.Expression) → lastSize (expressionRecord e) ≡ length (lastOf (e .condition))
+unfolding expressionRecord
+last-size-is e = go (e .condition) refl
+  where
+    go : (k : model.Condition) → e .condition ≡ k → lastSize (expressionRecord e) ≡ length (lastOf (e .condition))
+    go [] q = rw (eq-eqb (length (e .condition)) 0 (ap length q), q)
+    go (x ∷ k) q =
+        let some : suc (length k) ≡ length (e .condition) = sym (ap length q) in
+        rw (ne-eqb (length (e .condition)) 0 (λ z. omega arith)) (ap (λ (c : Clause). c .size) (last-laid e (length k) some))

@@ -1,0 +1,52 @@
+-- `codec::put_clauses` meets its contract: one clause more with each turn. Assumes nothing.
+use mathlib.Core.List.{[]}
+use Prim.Native.Nat.{_-_}
+use native.Mathlib.Omega.{arith}
+use borrow.Author.Needs.{needs}
+use Rattle.codec.specs.Puts.{clauseBytes, clausesBytes}
+use Rattle.codec.proofs.Puts.{puts-length, Turn, turns-begin, turn-room, turn-next, turns-end}
+use Rattle.codec.proofs.Records.{sized-expression}
+use Rattle.codec.proofs.put_clauses.Statement.{statement}
+use Rattle.codec.proofs.put_clauses.Tie as tie
+
+abbrev Inv-loop : tie.InvT-loop
+Inv-loop out₀ at e n p₀ q₀ out p q = Turn clauseBytes (e .size) (e .clauses) out₀ at out p q
+
+abbrev μ-loop : tie.MeasureT-loop
+μ-loop out₀ at e n p₀ q₀ out p q = n - q
+
+loop-holds : tie.Need-loop-holds Inv-loop μ-loop
+unfolding clausesBytes
+loop-holds c = turns-begin (c .before .before .pre)
+
+returns : tie.Need-returns Inv-loop μ-loop
+unfolding clausesBytes
+returns c =
+    let s = c .before .before .before .before in
+    let size = sized-expression (s .args .t3) _ (s .good .1 .1 .0) in
+    turns-end (c .before .loop .inv) (omega arith)
+
+pub put-clauses-spec : {M : Type 1} → statement M
+put-clauses-spec =
+    tie.close
+    (tie.spec
+    Inv-loop
+    μ-loop
+    (λ c κs. search needs)
+    loop-holds
+    (λ c. omega arith)
+    (λ c. omega arith)
+    (λ c κs.
+    let s = c .before .before .before .before .before .before in
+    let size = sized-expression (s .args .t3) _ (s .good .1 .1 .0) in
+    turn-room (c .before .before .before .loop .inv) (record { size = 0; comparisons = [] }) (omega arith))
+    (λ c. omega arith)
+    (λ c. omega arith)
+    (λ c.
+    let c1 = c .before .before in
+    let c2 = c1 .before .before .before .before in
+    let s = c2 .before .before .before in
+    let size = sized-expression (s .args .t3) _ (s .good .1 .1 .0) in
+    turn-next (c2 .loop .inv) (record { size = 0; comparisons = [] }) (omega arith) (c1 .put-clause .ensures))
+    (λ c. puts-length (c .before .loop .inv .done))
+    returns)
