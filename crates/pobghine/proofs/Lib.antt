@@ -1,0 +1,5 @@
+pub mod Copied
+pub mod Judged
+pub mod Outcomes
+pub mod Counts
+pub mod Theorems

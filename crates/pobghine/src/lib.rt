@@ -1,0 +1,68 @@
+// The entry points of the part. None asks anything of its caller.
+ghost use mathlib.Core.Path.{_≡_};
+ghost use mathlib.Core.List.{_++_};
+ghost use Prim.Native.Nat.{_≤_};
+ghost use lib.ListN.{length, drop};
+ghost use Rattle.layout.specs.Reading.{readOf};
+ghost use Rattle.codec.specs.Answers.{decodedOf};
+ghost use Rattle.pobghine.specs.Records.{isRead, writtenOf, lentAfter};
+use codec::Answer;
+use codec::Decoded;
+use job::Job;
+
+// Reads a job: its record, or a refusal with the empty record beside it.
+pub fn read(s: &[u8]) -> Decoded
+    ensures { λ r. ⌜ r ≡ decodedOf (readOf (now (s .entry))) ⌝ }
+{
+    codec::read(s)
+}
+
+// Whether reading gives a record, which decides on refusal 12: one that it gives is read again from what is written of it.
+fn is_read(job: Job) -> bool
+    ensures { λ r. ⌜ r ≡ isRead job ⌝ }
+{
+    let mut bytes = [0u8; codec::MOST];
+    let n = codec::write(job, &mut bytes);
+    let back = codec::read(&bytes[..n]);
+    let answer = back.answer;
+    let again = back.job;
+    let Answer::Whole = answer else {
+        return false;
+    };
+    job::same(job, again)
+}
+
+// Copies bytes to the start of others.
+fn copy(from: &[u8], to: &mut [u8])
+    requires { ⌜ length (now from) ≤ length (now to) ⌝ }
+    ensures { λ _. ⌜ now (to .exit) ≡ now (from .entry) ++ drop (length (now (from .entry))) (now (to .entry)) ⌝ }
+{
+    let mut i = 0;
+    while i < from.len() {
+        to[i] = from[i];
+        i += 1;
+    }
+}
+
+// What writing answers: how many bytes it wrote, or a refusal with its number and position.
+pub enum Written {
+    Count(usize),
+    Refused(u8, usize),
+}
+
+// Writes a job's bytes, whole or not at all.
+pub fn write(job: Job, out: &mut [u8]) -> Written
+    ensures answer { λ r. ⌜ r ≡ writtenOf job (length (now (out .entry))) ⌝ }
+    ensures bytes { λ _. ⌜ now (out .exit) ≡ lentAfter job (now (out .entry)) ⌝ }
+{
+    if !is_read(job) {
+        return Written::Refused(12, 0);
+    }
+    let mut bytes = [0u8; codec::MOST];
+    let n = codec::write(job, &mut bytes);
+    if out.len() < n {
+        return Written::Refused(17, 0);
+    }
+    copy(&bytes[..n], &mut *out);
+    Written::Count(n)
+}
