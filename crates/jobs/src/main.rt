@@ -1,0 +1,82 @@
+// Reads jobs from standard input, and writes an answer to each to standard output.
+//
+// A job is two bytes, the number of its bytes, and then those. An answer is a byte, the number of the refusal or 0, and four bytes: the
+// refusal's position or, with 0, the number of bytes that the job is written as; and then those. All numbers have their low byte first. Where
+// the input ends within a job, nothing more is answered.
+use codec::Answer;
+use job::Job;
+use libc::STDIN_FILENO;
+use libc::STDOUT_FILENO;
+use pobghine::Written;
+ghost use Prim.Native.Nat.{_<_, _≤_};
+ghost use lib.ListN.{length};
+
+fn wide(b: u8) -> usize
+    ensures { λ r. ⌜ r < 256 ⌝ }
+{
+    b as usize
+}
+
+// This function and the next three answer whether a further job may follow.
+fn put_head(number: u8, n: usize) -> bool {
+    let head = [
+        number,
+        (n % 256) as u8,
+        (n / 256 % 256) as u8,
+        (n / 65536 % 256) as u8,
+        (n / 16777216 % 256) as u8,
+    ];
+    io::write_all(STDOUT_FILENO, &head)
+}
+
+fn answer_whole(job: Job) -> bool {
+    let mut out = [0u8; codec::MOST];
+    let written = pobghine::write(job, &mut out);
+    match written {
+        Written::Refused(number, at) => put_head(number, at),
+        Written::Count(n) => {
+            if !put_head(0, n) {
+                return false;
+            }
+            io::write_all(STDOUT_FILENO, &out[..n])
+        },
+    }
+}
+
+// Reads a job into s, which it fills, and answers it.
+fn answer_job(s: &mut [u8]) -> bool {
+    let got = io::read_full(STDIN_FILENO, &mut *s);
+    if got < s.len() {
+        return false;
+    }
+    let decoded = pobghine::read(&*s);
+    let answer = decoded.answer;
+    match answer {
+        Answer::Refused(number, at) => put_head(number, at),
+        Answer::Whole => answer_whole(decoded.job),
+    }
+}
+
+fn next_job(s: &mut [u8]) -> bool
+    requires { ⌜ 65535 ≤ length (now s) ⌝ }
+{
+    let mut head = [0u8; 2];
+    let got = io::read_full(STDIN_FILENO, &mut head);
+    if got < 2 {
+        return false;
+    }
+    let size = wide(head[0]) + wide(head[1]) * 256;
+    answer_job(&mut s[..size])
+}
+
+fn main() {
+    let mut s = [0u8; 65535];
+    // A loop needs a number that falls; no input has so many jobs.
+    let mut left = u64::MAX;
+    while 0 < left {
+        if !next_job(&mut s) {
+            return;
+        }
+        left -= 1;
+    }
+}
