@@ -5,7 +5,7 @@ use mathlib.Core.List.{List, [], _∷_, _++_, map, append-assoc, append-nil}
 use Prim.Native.Nat.{ℕ, zero, suc, _+_, _-_, _≤_, _<_}
 use native.Mathlib.Nat.{add-zero, zero-add}
 use native.Mathlib.Omega.{arith}
-use lib.ListN.{length, getD, set, replicate, length-append, length-set, length-map, length-replicate, List·getD-append}
+use lib.ListN.{length, getD, set, replicate, length-append, length-set, length-map, List·getD-append}
 use lib.Seq.{set-append-seam, set-append-left, getD-append-add}
 use lib.Dec.{T, ltb}
 use borrow.Author.Tests.{ltb-true, ltb-false}
@@ -22,9 +22,6 @@ use Rattle.codec.specs.Uses.{currentIn, placed, tableMore, columnMore, u
 
 -- ---- a list in an array
 module _ {A : Type 0} (n : ℕ) (d : A) (l : List A) where
-  pub length-padded : length l ≤ n → length (padded n d l) ≡ n
-  length-padded h = simp (length-append, length-replicate) (omega arith)
-
   pub getD-padded : (i : ℕ) (e : A) → i < length l → getD (padded n d l) i e ≡ getD l i e
   getD-padded i e h = List·getD-append l (replicate (n - length l) d) e i h
 

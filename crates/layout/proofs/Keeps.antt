@@ -340,6 +340,3 @@ module _ (s : List ℕ) (at at' : ℕ) (st st' : State) where
 
   pub step-sound : Sound st → stepOf s at st ≡ next at' st' → Sound st'
   step-sound h e = let (c, g) = step-given s at at' st st' e in rw (← g .state) (given-sound c h g)
-
-  pub sound-place : stepOf s at st ≡ next at' st' → at' ≤ length s
-  sound-place e = let (c, g) = step-given s at at' st st' e in rw (← g .place) (g .whole)
