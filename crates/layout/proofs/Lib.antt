@@ -3,6 +3,7 @@ pub mod Sound
 pub mod Growing
 pub mod Given
 pub mod Keeps
+pub mod Rooms
 pub mod Ends
 pub mod Entries
 pub mod Back
@@ -10,4 +11,5 @@ pub mod Taken
 pub mod Written
 pub mod Reaches
 pub mod Complete
+pub mod Enough
 pub mod Theorems

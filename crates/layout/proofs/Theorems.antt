@@ -1,7 +1,8 @@
 -- What holds of reading and writing, for every list of bytes. Assumes nothing.
 use mathlib.Core.Path.{_≡_, sym, _∙_}
 use mathlib.Core.List.{List}
-use Prim.Native.Nat.{ℕ}
+use Prim.Native.Nat.{ℕ, _≤_}
+use lib.ListN.{length, take}
 use lib.Dec.{T}
 use Rattle.words.proofs.Words.{Bytes}
 use Rattle.model.specs.Tables.{Job}
@@ -13,6 +14,7 @@ use Rattle.layout.proofs.Keeps.{start-sound, step-sound}
 use Rattle.layout.proofs.Ends.{read-ended, sound-end}
 use Rattle.layout.proofs.Back.{written-back}
 use Rattle.layout.proofs.Complete as complete
+use Rattle.layout.proofs.Enough as enough
 
 -- a job that is accepted is well formed
 pub read-formed : (s : List ℕ) (j : Job) → readOf s ≡ accepted j → T (wellFormed j)
@@ -34,3 +36,7 @@ read-written j w = complete.read-written j w
 
 pub written-bytes : (j : Job) → T (wellFormed j) → Bytes (jobBytes j)
 written-bytes j w = complete.written-bytes j w
+
+-- the first 600 bytes tell how all of them are read, the refusal and its position too
+pub read-enough : (s : List ℕ) → 600 ≤ length s → readOf (take 600 s) ≡ readOf s
+read-enough s h = enough.read-enough s h

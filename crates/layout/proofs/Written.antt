@@ -51,7 +51,7 @@ pub record Sized (j : Job) : Type 0 where
   pub extract-formed : Formed (j .tables) (j .extract)
   pub query-formed : Formed (j .tables) (j .query)
 
-parts-formed : (ts : List Table) (e : Expression) → T (expressionFormed ts e) → T (conditionLimited (e .condition)) → Formed ts e
+pub parts-formed : (ts : List Table) (e : Expression) → T (expressionFormed ts e) → T (conditionLimited (e .condition)) → Formed ts e
 unfolding expressionFormed conditionLimited
 parts-formed ts e t l =
     let (a, (b, (c, (d, (f, (g, (h, k))))))) = each (not (isEmpty (e .used))) (
