@@ -29,7 +29,7 @@ use Rattle.codec.specs.declared.Entered.{Entered}
 use Rattle.codec.specs.Answers.{stateOf}
 use Rattle.codec.specs.Uses.{currentIn, lastClause, scopedIn, aboveIn, placed, tableMore, columnMore, usedMore, outputMore, clauseMore, comparisonMore, Open, boundsFit, addedTo, faultOf, enteredOf, Held}
 use Rattle.codec.proofs.Laid.{table-laid, column-laid, used-laid, output-laid, clause-laid, last-laid, comparison-laid, placed-laid}
-use Rattle.codec.proofs.Rooms.{used-fit, used-room, outputs-fit, outputs-room}
+use Rattle.layout.proofs.Rooms.{used-fit, used-room, outputs-fit, outputs-room}
 use Rattle.codec.proofs.Looks.{above-is, scoped-is, outputs-are}
 use Rattle.codec.proofs.Keeping.{tables-held, width-held, current-held, size-held, size-small}
 

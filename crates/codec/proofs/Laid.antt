@@ -1,48 +1,22 @@
--- Lists in arrays, and the record of a job with one entry more. Assumes nothing.
+-- The record of a job with one entry more. Assumes nothing.
 use mathlib.Core.Path.{_≡_, refl, ap, _∙_}
 use mathlib.Core.Bool.{Bool, true, false, not, cond}
 use mathlib.Core.List.{List, [], _∷_, _++_, map, append-assoc, append-nil}
-use Prim.Native.Nat.{ℕ, zero, suc, _+_, _-_, _≤_, _<_}
+use Prim.Native.Nat.{ℕ, zero, suc, _+_, _-_, _<_}
 use native.Mathlib.Nat.{add-zero, zero-add}
 use native.Mathlib.Omega.{arith}
-use lib.ListN.{length, getD, set, replicate, length-append, length-set, length-map, List·getD-append}
-use lib.Seq.{set-append-seam, set-append-left, getD-append-add}
-use lib.Dec.{T, ltb}
-use borrow.Author.Tests.{ltb-true, ltb-false}
+use lib.ListN.{length, getD, set, length-append, length-map}
+use lib.Dec.{T}
 use Rattle.model.specs.Lists.{isEmpty}
 use Rattle.model.specs.Tables as model
-use Rattle.model.specs.Tables.{Bounds, Table, columnsOf, tableOf}
-use Rattle.job.specs.declared.Column.{Column}
+use Rattle.model.specs.Tables.{Bounds, Table, columnsOf}
 use Rattle.job.specs.Record.{padded, noColumn, noComparison, noClause}
 use Rattle.job.specs.Meaning.{columnRecord, columnRecords, comparisonRecord, clauseRecord, expressionRecord, recordOf}
 use Rattle.job.proofs.Meaning.{columns-length}
+use Rattle.job.proofs.Padded.{getD-padded, set-padded, padded-more, padded-same, map-more}
 use Rattle.layout.specs.Reading.{lastOf, inLast, withUsed, withOutput, withCondition, withTables, withCurrent}
 use Rattle.layout.proofs.Growing.{length-last, concat-more, concat-last}
 use Rattle.codec.specs.Uses.{currentIn, placed, tableMore, columnMore, usedMore, outputMore, clauseMore, withComparison, comparisonMore, lastClause}
-
--- ---- a list in an array
-module _ {A : Type 0} (n : ℕ) (d : A) (l : List A) where
-  pub getD-padded : (i : ℕ) (e : A) → i < length l → getD (padded n d l) i e ≡ getD l i e
-  getD-padded i e h = List·getD-append l (replicate (n - length l) d) e i h
-
-  pub set-padded : (i : ℕ) (x : A) → i < length l → set (padded n d l) i x ≡ padded n d (set l i x)
-  set-padded i x h = rw (length-set l i x) (set-append-left l (replicate (n - length l) d) i x h)
-
-  -- one element more
-  pub padded-more : (x : A) → length l < n → set (padded n d l) (length l) x ≡ padded n d (l ++ x ∷ [])
-  padded-more x h =
-      let m : n - length l ≡ suc (n - (length l + 1)) = omega arith in
-      rw (m, length-append l (x ∷ []), append-assoc) (set-append-seam l d (replicate (n - (length l + 1)) d) x)
-
-  -- one empty one more
-  pub padded-same : length l < n → padded n d l ≡ padded n d (l ++ d ∷ [])
-  padded-same h =
-      let m : n - length l ≡ suc (n - (length l + 1)) = omega arith in
-      rw (m, length-append l (d ∷ []), append-assoc)
-
-pub map-more : {A B : Type 0} (f : A → B) (l : List A) (x : A) → map f (l ++ x ∷ []) ≡ map f l ++ f x ∷ []
-map-more f [] x = refl
-map-more f (y ∷ l) x = ap (λ (m : List _). f y ∷ m) (map-more f l x)
 
 -- ---- the last of some lists
 module _ {A B : Type 0} (f : List A → B) where
@@ -78,31 +52,6 @@ columns-last t zero (bs ∷ cs ∷ ts) b e = absurd (omega arith)
 columns-last t (suc n) (bs ∷ cs ∷ ts) b e =
     let m : t + suc n ≡ suc t + n = omega arith in
     rw (m, columns-last (suc t) n (cs ∷ ts) b (omega arith), append-assoc (map (columnRecord t) bs))
-
-column-here : (t : ℕ) (bs : Table) (c : ℕ) (d : Column) → c < length bs → getD (map (columnRecord t) bs) c d .table ≡ t
-column-here t [] c d h = absurd (omega arith)
-column-here t (b ∷ bs) zero d h = refl
-column-here t (b ∷ bs) (suc c) d h = column-here t bs c d (omega arith)
-
-pub column-table : (t : ℕ) (ts : List Table) (c : ℕ) (d : Column) → c < length (columnsOf ts)
-    → getD (columnRecords t ts) c d .table ≡ t + tableOf ts c
-column-table t [] c d h = absurd (omega arith)
-column-table t (bs ∷ ts) c d h = go (ltb c (length bs)) refl (column-table (suc t) ts (c - length bs) d)
-  where
-    front : List Column
-    front = map (columnRecord t) bs
-
-    go : (q : Bool) → ltb c (length bs) ≡ q
-        → (c - length bs < length (columnsOf ts) → getD (columnRecords (suc t) ts) (c - length bs) d .table ≡ suc t + tableOf ts (c - length bs))
-        → getD (columnRecords t (bs ∷ ts)) c d .table ≡ t + cond q zero (suc (tableOf ts (c - length bs)))
-    go true e f =
-        let in-front : c < length front = rw (length-map bs (columnRecord t)) (ltb-true c (length bs) e) in
-        rw (List·getD-append front (columnRecords (suc t) ts) d c in-front, add-zero) (column-here t bs c d (ltb-true c (length bs) e))
-    go false e f =
-        let past : length bs ≤ c = ltb-false c (length bs) e in
-        let place : length front + (c - length bs) ≡ c = rw (length-map bs (columnRecord t)) (omega arith) in
-        ap (λ (k : Column). k .table) (rw place at (getD-append-add front (columnRecords (suc t) ts) (c - length bs) d))
-        ∙ f (omega (arith, length-append bs (columnsOf ts))) ∙ omega arith
 
 -- ---- one entry more
 pub table-laid : (j : model.Job) → tableMore (recordOf j) ≡ recordOf (withTables j (j .tables ++ [] ∷ []))

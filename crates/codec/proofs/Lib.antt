@@ -1,7 +1,6 @@
 pub mod Tests
 pub mod Bytes
 pub mod Laid
-pub mod Rooms
 pub mod Looks
 pub mod Keeping
 pub mod Entries
@@ -9,6 +8,5 @@ pub mod Steps
 pub mod Turns
 pub mod Puts
 pub mod Written
-pub mod Records
 pub mod Meant
 pub mod Most

@@ -1,9 +1,8 @@
 -- Tests on the record of a job are the tests on the job. Assumes nothing.
-use mathlib.Core.Path.{_≡_, refl, sym, ap, _∙_}
+use mathlib.Core.Path.{_≡_, refl, sym, ap}
 use mathlib.Core.Bool.{Bool, true, false, _&&_, _||_}
 use mathlib.Core.List.{List, [], _∷_}
-use Prim.Native.Nat.{ℕ, zero, suc, _-_, _<_}
-use native.Mathlib.Nat.{zero-add}
+use Prim.Native.Nat.{ℕ, zero, suc, _-_}
 use native.Mathlib.Numerals.{sub-one}
 use native.Mathlib.Omega.{arith}
 use lib.ListN.{length, getD, take}
@@ -11,16 +10,17 @@ use lib.Dec.{eqb, ltb}
 use borrow.Author.Tests.{eq-eqb, ne-eqb, ltb-true}
 use Rattle.model.specs.Lists.{anyOf}
 use Rattle.model.specs.Tables as model
-use Rattle.model.specs.Tables.{Table, columnsOf, tableOf, uses}
+use Rattle.model.specs.Tables.{columnsOf, tableOf, uses}
 use Rattle.model.specs.WellFormed.{inScope}
-use Rattle.job.specs.declared.Column.{Column}
 use Rattle.job.specs.declared.Clause.{Clause}
 use Rattle.job.specs.Record.{padded, noColumn}
 use Rattle.job.specs.Meaning.{columnRecords, expressionRecord, recordOf}
-use Rattle.job.proofs.Meaning.{take-padded, columns-length}
+use Rattle.job.proofs.Meaning.{take-padded}
+use Rattle.job.proofs.Padded.{getD-padded}
+use Rattle.job.proofs.Columns.{column-of}
 use Rattle.layout.specs.Reading.{lastOf, aboveLast}
 use Rattle.codec.specs.Uses.{lastSize, scopedIn, aboveIn}
-use Rattle.codec.proofs.Laid.{getD-padded, column-table, last-laid}
+use Rattle.codec.proofs.Laid.{last-laid}
 
 last-above : (l : List ℕ) (i t : ℕ) → suc i ≡ length l → ltb (getD l i 0) t ≡ aboveLast l t
 last-above [] i t e = absurd (omega arith)
@@ -45,11 +45,6 @@ outputs-are e = take-padded 16 0 (e .outputs) _ refl
 used-are : (e : model.Expression) → take (expressionRecord e .tables) (expressionRecord e .used) ≡ e .used
 unfolding expressionRecord
 used-are e = take-padded 4 0 (e .used) _ refl
-
-column-of : (ts : List Table) (c : ℕ) (d : Column) → c < length (columnsOf ts) → getD (padded 16 noColumn (columnRecords 0 ts)) c d .table ≡ tableOf ts c
-column-of ts c d h =
-    ap (λ (k : Column). k .table) (getD-padded 16 noColumn (columnRecords 0 ts) c d (rw (columns-length 0 ts) h))
-    ∙ column-table 0 ts c d h ∙ zero-add (tableOf ts c)
 
 pub scoped-is : (j : model.Job) (e : model.Expression) (c : ℕ) → scopedIn (recordOf j) (expressionRecord e) c ≡ inScope (j .tables) e c
 unfolding recordOf uses

@@ -10,7 +10,6 @@ use lib.Dec.{eqb}
 use borrow.Author.Tests.{ne-eqb}
 use Rattle.words.specs.Word.{encoded}
 use Rattle.model.specs.Lists.{flatMap}
-use Rattle.model.specs.Tables.{Against, column, number}
 use Rattle.model.specs.Coded.{opAt, numberOfOp, sideOf}
 use Rattle.job.specs.declared.Column.{Column}
 use Rattle.job.specs.declared.Comparison.{Comparison}
@@ -19,10 +18,11 @@ use Rattle.job.specs.declared.Expression.{Expression}
 use Rattle.job.specs.declared.Job.{Job}
 use Rattle.job.specs.Meaning.{tableNumbers, meaningOf}
 use Rattle.layout.specs.Commands.{startBytes}
-use Rattle.layout.specs.Writing.{comparisonBytes, jobBytes}
+use Rattle.layout.specs.Writing.{jobBytes}
+use Rattle.layout.proofs.Enough.{side-most}
 use Rattle.codec.specs.Puts.{Room, Puts, columnsIn, columnIn, tableBytes, tablesBytes, eachBytes, usedBytes, outputsBytes, comparisonIn, clauseBytes, clausesBytes, expressionBytes}
 use Rattle.codec.proofs.Puts.{put-first, room-first, room-next}
-use Rattle.codec.proofs.Records.{Sixes, SizedExpression, Sized}
+use Rattle.job.proofs.Records.{Sixes, SizedExpression, Sized}
 use Rattle.codec.proofs.Meant.{toTables, toExtract, toQuery, recordBytes, meant}
 
 module _ {A : Type 0} (f : A → List ℕ) where
@@ -77,10 +77,6 @@ tables-most r h =
     omega (arith, fewer (tableBytes cs) (r .tables) tableNumbers, all-tables cs, length-take (r .width) (r .columns))
 
 -- ---- expressions
-side-most : (o l : ℕ) (r : Against) → length (comparisonBytes o l r) ≤ 7
-side-most o l (column c) = omega arith
-side-most o l (number v) = omega arith
-
 comparison-most : (k : Comparison) → length (comparisonIn k) ≤ 7
 comparison-most k = side-most (numberOfOp (opAt (k .op))) (k .left) (sideOf (k .right) (k .number))
 

@@ -75,21 +75,6 @@ struct Entered {
 
 // ---- Parts of the record
 
-// Whether x is among the first n of a.
-fn is_among(a: &[u8], n: usize, x: u8) -> bool
-    requires { ⌜ n ≤ length (now a) ⌝ }
-    ensures { λ r. ⌜ r ≡ anyOf (eqb x) (take n (now (a .entry))) ⌝ }
-{
-    let mut i = 0;
-    while i < n {
-        if a[i] == x {
-            return true;
-        }
-        i += 1;
-    }
-    false
-}
-
 // The expression that commands are for.
 fn current(job: Job, in_query: bool) -> Expression
     ensures { λ r. ⌜ r ≡ currentIn in_query job ⌝ }
@@ -131,7 +116,7 @@ fn is_in_scope(job: Job, e: Expression, c: u8) -> bool
     }
     let column = job.columns[k];
     let used = e.used;
-    is_among(&used, e.tables, column.table)
+    job::is_among(&used, e.tables, column.table)
 }
 
 // Whether table t comes after the used tables.
@@ -285,15 +270,15 @@ fn follows(c: Command, last: u8, in_query: bool) -> bool
     ensures { λ r. ⌜ r ≡ anyOf (eqb last) (before in_query c) ⌝ }
 {
     match c {
-        Command::NextTable => is_among(&[0, 0x11], 2, last),
-        Command::NextColumn => is_among(&[0x10, 0x11], 2, last),
-        Command::ExtractBegins => is_among(&[0x11], 1, last),
+        Command::NextTable => job::is_among(&[0, 0x11], 2, last),
+        Command::NextColumn => job::is_among(&[0x10, 0x11], 2, last),
+        Command::ExtractBegins => job::is_among(&[0x11], 1, last),
         Command::QueryBegins => if in_query { false } else { is_ending(last) },
-        Command::TableUsed => is_among(&[0x20, 0x21, 0x30], 3, last),
-        Command::OutputColumn => is_among(&[0x30, 0x31], 2, last),
+        Command::TableUsed => job::is_among(&[0x20, 0x21, 0x30], 3, last),
+        Command::OutputColumn => job::is_among(&[0x30, 0x31], 2, last),
         Command::NextClause => is_ending(last),
-        Command::NumberCompared => is_among(&[0x40, 0x41, 0x42], 3, last),
-        Command::ColumnCompared => is_among(&[0x40, 0x41, 0x42], 3, last),
+        Command::NumberCompared => job::is_among(&[0x40, 0x41, 0x42], 3, last),
+        Command::ColumnCompared => job::is_among(&[0x40, 0x41, 0x42], 3, last),
         Command::End => if in_query { is_ending(last) } else { false },
     }
 }
@@ -302,7 +287,7 @@ fn follows(c: Command, last: u8, in_query: bool) -> bool
 fn is_ending(last: u8) -> bool
     ensures { λ r. ⌜ r ≡ anyOf (eqb last) ending ⌝ }
 {
-    is_among(&[0x31, 0x40, 0x41, 0x42], 4, last)
+    job::is_among(&[0x31, 0x40, 0x41, 0x42], 4, last)
 }
 
 // Whether the bytes begin as a job's do.
@@ -453,7 +438,7 @@ fn output_column(s: &[u8], cur: Cursor, job: Job) -> Entered
         return fault(9);
     }
     let outputs = e.outputs;
-    if is_among(&outputs, e.width, c) {
+    if job::is_among(&outputs, e.width, c) {
         return fault(10);
     }
     added(with_current(job, cur.in_query, with_output(e, c)))

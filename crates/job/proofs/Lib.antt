@@ -2,3 +2,7 @@ pub mod Meaning
 pub mod Alike
 pub mod Equal
 pub mod Tidy
+pub mod Records
+pub mod Padded
+pub mod Columns
+pub mod Counts

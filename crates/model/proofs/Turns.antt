@@ -7,18 +7,29 @@ use native.Mathlib.Numerals.{add-one}
 use native.Mathlib.Omega.{arith}
 use lib.ListN.{length, getD, drop, drop-of-length-le}
 use lib.Seq.{drop-cons}
-use Rattle.model.specs.Lists.{allOf, pairwise}
+use Rattle.model.specs.Lists.{anyOf, allOf, pairwise}
 
--- ---- of one list
-module _ {A : Type 0} (p : A → Bool) (d : A) (xs : List A) (i : ℕ) (left : allOf p (drop i xs) ≡ allOf p xs) where
-  pub all-fails : i < length xs → p (getD xs i d) ≡ false → false ≡ allOf p xs
+-- ---- of one list: whether each passes
+module _ {A : Type 0} (p : A → Bool) (d : A) (xs : List A) (i : ℕ) {o : Bool} (left : allOf p (drop i xs) ≡ o) where
+  pub all-fails : i < length xs → p (getD xs i d) ≡ false → false ≡ o
   all-fails h e = rw (drop-cons xs i d h, e) at left
 
-  pub all-more : i < length xs → p (getD xs i d) ≡ true → allOf p (drop (i + 1) xs) ≡ allOf p xs
+  pub all-more : i < length xs → p (getD xs i d) ≡ true → allOf p (drop (i + 1) xs) ≡ o
   all-more h e = rw (add-one i) (rw (drop-cons xs i d h, e) at left)
 
-  pub all-done : length xs ≤ i → true ≡ allOf p xs
+  pub all-done : length xs ≤ i → true ≡ o
   all-done h = rw (drop-of-length-le xs h) at left
+
+-- ---- whether some element does
+module _ {A : Type 0} (p : A → Bool) (d : A) (xs : List A) (i : ℕ) {o : Bool} (left : anyOf p (drop i xs) ≡ o) where
+  pub any-here : i < length xs → p (getD xs i d) ≡ true → true ≡ o
+  any-here h e = rw (drop-cons xs i d h, e) at left
+
+  pub any-more : i < length xs → p (getD xs i d) ≡ false → anyOf p (drop (i + 1) xs) ≡ o
+  any-more h e = rw (add-one i) (rw (drop-cons xs i d h, e) at left)
+
+  pub any-done : length xs ≤ i → false ≡ o
+  any-done h = rw (drop-of-length-le xs h) at left
 
 -- ---- of two lists, place by place
 module _ {A B : Type 0} (p : A → B → Bool) (d : A) (e : B) (xs : List A) (ys : List B) (same : length ys ≡ length xs) (i : ℕ) where

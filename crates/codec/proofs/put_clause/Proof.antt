@@ -7,7 +7,7 @@ use borrow.Author.Needs.{needs}
 use Rattle.job.specs.Record.{noComparison}
 use Rattle.codec.specs.Puts.{comparisonIn, clauseBytes}
 use Rattle.codec.proofs.Puts.{puts-length, and-then, room-first, room-next, Turn, turns-begin, turn-room, turn-next, turns-end}
-use Rattle.codec.proofs.Records.{six}
+use Rattle.job.proofs.Records.{six}
 use Rattle.codec.proofs.put_clause.Statement.{statement}
 use Rattle.codec.proofs.put_clause.Tie as tie
 

@@ -7,7 +7,7 @@ use borrow.Author.Needs.{needs}
 use Rattle.job.specs.Record.{noColumn}
 use Rattle.codec.specs.Puts.{columnIn, tableBytes}
 use Rattle.codec.proofs.Puts.{puts-length, and-then, room-first, room-next, Turn, turns-begin, turn-room, turn-next, turns-end}
-use Rattle.codec.proofs.Records.{sized}
+use Rattle.job.proofs.Records.{sized}
 use Rattle.codec.proofs.put_table.Statement.{statement}
 use Rattle.codec.proofs.put_table.Tie as tie
 
