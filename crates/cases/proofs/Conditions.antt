@@ -1,7 +1,7 @@
 -- Conditions made of others, so that what is asked of a row, or of two rows as one, is again a condition. Assumes nothing.
 use mathlib.Core.Path.{_≡_, refl, sym, _∙_}
 use mathlib.Core.Logic.{_⊎_, inl, inr}
-use mathlib.Core.Bool.{Bool, true, false, not, and-true, and-false, and-assoc, or-false, or-assoc, and-or-distrib-left, and-or-distrib-right, _&&_, _||_}
+use mathlib.Core.Bool.{Bool, not, and-true, and-false, or-false, and-or-distrib-left, and-or-distrib-right, _&&_}
 use mathlib.Core.List.{List, [], _∷_, _++_, map, List·Memᴰ·head, List·Memᴰ·tail, List·Memᴰ·not-nil, List·Memᴰ·eq-of-singleton, List·Memᴰ·append-cases, Memᴰ·of-map}
 use Prim.Native.Nat.{ℕ, _+_, _<_}
 use native.Mathlib.Omega.{arith}
@@ -17,6 +17,7 @@ use Rattle.model.specs.Rows.{sameRow}
 use Rattle.model.proofs.Lists.{all-has, has-all, flatMap-has}
 use Rattle.solver.specs.Comparisons.{opposites}
 use Rattle.solver.specs.Solver.{againstFits, comparisonFits}
+use Rattle.solver.proofs.Lists.{any-append, all-append, not-or}
 use Rattle.solver.proofs.Comparisons.{not-and, opposites-hold}
 
 -- ---- The conditions
@@ -57,19 +58,6 @@ abbrev pub agreement : ℕ → List ℕ → Condition
 agreement n cs = map (repeated n) cs ∷ []
 
 -- ---- When they hold
-
-any-append : {A : Type 0} (p : A → Bool) (xs ys : List A) → anyOf p (xs ++ ys) ≡ (anyOf p xs || anyOf p ys)
-any-append p [] ys = refl
-any-append p (x ∷ xs) ys = rw (any-append p xs ys) (sym (or-assoc (p x) (anyOf p xs) (anyOf p ys)))
-
-pub all-append : {A : Type 0} (p : A → Bool) (xs ys : List A) → allOf p (xs ++ ys) ≡ (allOf p xs && allOf p ys)
-all-append p [] ys = refl
-all-append p (x ∷ xs) ys = rw (all-append p xs ys) (sym (and-assoc (p x) (allOf p xs) (allOf p ys)))
-
--- a test that fails
-not-or : (a b : Bool) → (not a && not b) ≡ not (a || b)
-not-or true b = refl
-not-or false b = refl
 
 module _ (r : Row) where
   both-holds : (k l : Condition) → conditionHolds r (both k l) ≡ (conditionHolds r k && conditionHolds r l)

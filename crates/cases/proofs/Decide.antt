@@ -6,18 +6,19 @@ use Prim.Native.Nat.{ℕ, _+_, _<_}
 use lib.ListN.{length, take, drop}
 use lib.Seq.{getD-take}
 use lib.IntN.{pos}
-use lib.Dec.{T, eqb, ltb→lt}
+use lib.Dec.{T, eqb}
 use Rattle.words.specs.Compare.{eqZ}
-use Rattle.model.specs.Lists.{anyOf}
+use Rattle.model.specs.Lists.{anyOf, allOf}
 use Rattle.model.specs.Tables.{Row, Condition, Expression, Job, tableOf, uses, value, outputsOf, meets}
 use Rattle.model.specs.WellFormed.{inScope, wellFormed}
 use Rattle.model.specs.Rows.{someRow, sameRow}
 use Rattle.model.specs.Verdict.{firstKind, columns, meetsQuery, alikeInExtract, tablesDiffer, kind1, witness2, kind2, witness3, kind3, witness4, kind4, kindOf, unfixing, fixed, listingOf}
 use Rattle.model.proofs.Lists.{all-has}
 use Rattle.model.proofs.Scope.{same-meets, same-outputs}
-use Rattle.cases.proofs.Conditions.{both, negation, shifted, agreement, shifted-holds, agreement-holds, below-fits, shifted-fits, agreement-fits, Says, says-both, says-not}
+use Rattle.solver.specs.Solver.{comparisonFits}
+use Rattle.solver.proofs.Formed.{scope-declared, Taken, outputs-declared, JobTaken, job-taken}
+use Rattle.cases.proofs.Conditions.{Fits, both, negation, shifted, agreement, shifted-holds, agreement-holds, below-fits, shifted-fits, agreement-fits, Says, says-both, says-not}
 use Rattle.cases.proofs.Solving.{someSolution, some-by-solver, halves, two-by-solver}
-use Rattle.cases.proofs.Limits.{scope-declared, Taken, JobTaken, job-taken}
 
 module _ (j : Job) where
   abbrev n : ℕ
@@ -85,32 +86,32 @@ module _ (j : Job) where
 
   -- of an expression
   module _ {e : Expression} (taken : Taken (j .tables) e) where
-    in-scope : (c : ℕ) → T (inScope (j .tables) e c) → c < n
-    in-scope c h = ltb→lt c n (scope-declared (j .tables) e c h)
+    fits : Fits n (e .condition)
+    fits c m = all-has (allOf (comparisonFits n)) m (taken .fit)
 
     first-scope : (t : Row) (c : ℕ) → T (inScope (j .tables) e c) → value t c ≡ value (take n t) c
-    first-scope t c h = first-value t c (in-scope c h)
+    first-scope t c h = first-value t c (scope-declared (j .tables) e c h)
 
     says-meets : Says n (meets e) (e .condition)
     unfolding meets
-    says-meets = record { is = λ r. refl; fits = taken .fits }
+    says-meets = record { is = λ r. refl; fits = fits }
 
     says-first : SaysOfTwo (λ r s. meets e r) (e .condition)
     unfolding meets
     says-first = record {
       is = λ t. sym (same-meets (j .tables) e t (take n t) (first-scope t) (taken .formed));
-      fits = below-fits n (e .condition) (taken .fits);
+      fits = below-fits n (e .condition) fits;
     }
 
     says-second : SaysOfTwo (λ r s. meets e s) (shifted n (e .condition))
     unfolding meets
-    says-second = record { is = λ t. sym (shifted-holds t n (e .condition)); fits = shifted-fits n (e .condition) (taken .fits) }
+    says-second = record { is = λ t. sym (shifted-holds t n (e .condition)); fits = shifted-fits n (e .condition) fits }
 
     says-agreed : SaysOfTwo (λ r s. sameRow (outputsOf e r) (outputsOf e s)) (agreement n (e .outputs))
     unfolding outputsOf
     says-agreed = record {
       is = λ t. rw (agreement-holds t n (e .outputs), same-outputs (j .tables) e t (take n t) (first-scope t) (taken .formed));
-      fits = agreement-fits n (e .outputs) (λ c m. in-scope c (all-has (inScope (j .tables) e) m (taken .formed .outputs)));
+      fits = agreement-fits n (e .outputs) (outputs-declared taken);
     }
 
   -- of one column

@@ -18,7 +18,8 @@ use Rattle.model.proofs.Rows.{some-has, has-some, two-has, has-two}
 use Rattle.model.proofs.Theorems.{condition-holds, least-none, least-some}
 use Rattle.solver.specs.Solver.{boundsFit, comparisonFits, solvable, solution}
 use Rattle.solver.proofs.Theorems.{least-solution}
-use Rattle.cases.proofs.Conditions.{all-append, Says}
+use Rattle.solver.proofs.Lists.{all-append}
+use Rattle.cases.proofs.Conditions.{Says}
 
 abbrev found : Option Row → Bool
 found none = false

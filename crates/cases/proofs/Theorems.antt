@@ -19,10 +19,10 @@ use Rattle.zone.specs.Matrix.{matrix}
 use Rattle.zone.specs.Zone.{boxed, allows, tightened, constrained, leastOf}
 use Rattle.solver.specs.Comparisons.{constraintsOf}
 use Rattle.solver.specs.Solver.{solvable, boxOf, imposedBy, imposed, zoneOf, solution}
+use Rattle.solver.proofs.Formed.{JobTaken, job-taken}
 use Rattle.solver.proofs.Theorems.{least-solution}
 use Rattle.cases.specs.Cases.{Case, kind, listing, noRows, least, Holds, cases}
 use Rattle.cases.proofs.Solving.{someSolution}
-use Rattle.cases.proofs.Limits.{JobTaken, job-taken}
 use Rattle.cases.proofs.Decide.{kindBySolver, listingBySolver, met-by-solver, kind-by-solver, listing-by-solver}
 
 -- ---- The test of an entry

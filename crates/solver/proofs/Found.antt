@@ -32,7 +32,7 @@ use Rattle.solver.proofs.Bounds.{bounds-length, bounded, box-is}
 use Rattle.solver.proofs.Solver.{ObeysList, zone-answers, solution-least}
 
 -- where some row meets the list, the zone that is reached is the list's
-reached-is : (z : Zone) (ks : List Comparison) (y : Zone) → imposedAll z ks ≡ some y → reached z ks ≡ y
+pub reached-is : (z : Zone) (ks : List Comparison) (y : Zone) → imposedAll z ks ≡ some y → reached z ks ≡ y
 reached-is z [] y e = Option·some-injective z y e
 reached-is z (k ∷ ks) y e = go (imposed z k) e (λ w q. reached-is w ks y q)
   where

@@ -1,3 +1,4 @@
+pub mod Lists
 pub mod Nodes
 pub mod Comparisons
 pub mod Solver
@@ -5,5 +6,7 @@ pub mod Agree
 pub mod Imposing
 pub mod Bounds
 pub mod Progress
+pub mod Coded
 pub mod Found
+pub mod Formed
 pub mod Theorems

@@ -73,7 +73,7 @@ between-in n equal a b w h k = (h, k, (k, h, tt))
 between-in n atLeast a b w h k = (k, h, tt)
 between-in n more a b w h k = (k, h, tt)
 
-node-in : (n : ℕ) (t : Against) → T (againstFits n t) → nodeOf t < suc n
+pub node-in : (n : ℕ) (t : Against) → T (againstFits n t) → nodeOf t < suc n
 node-in n (column c) f = omega (arith, ltb→lt c n f)
 node-in n (number v) f = omega arith
 

@@ -16,9 +16,12 @@ boundsOf [] his = []
 boundsOf (lo ∷ los) [] = []
 boundsOf (lo ∷ los) (hi ∷ his) = record { lo = lo; hi = hi } ∷ boundsOf los his
 
+-- a comparison with its op, its column, and a number and a value for its right side
+abbrev pub coded : ℕ → ℕ → ℕ → ℤ → Comparison
+coded op left right value = record { op = opAt op; left = left; right = sideOf right value }
+
 unfoldable pub comparisonsOf : List ℕ → List ℕ → List ℕ → List ℤ → List Comparison
-comparisonsOf ops lefts rights numbers = tabulate (length ops) (λ i.
-    record { op = opAt (at ops i); left = at lefts i; right = sideOf (at rights i) (getD numbers i (pos 0)) })
+comparisonsOf ops lefts rights numbers = tabulate (length ops) (λ i. coded (at ops i) (at lefts i) (at rights i) (getD numbers i (pos 0)))
 
 -- what is written beside the answer: the row, or with none a zero for each of n columns
 abbrev pub rowOrZeros : ℕ → Option Row → Row

@@ -14,7 +14,7 @@ use Rattle.zone.specs.Zone.{level, leastOf}
 use Rattle.zone.specs.Array.{zoneIn}
 use Rattle.zone.specs.Uses.{InArray}
 use Rattle.solver.specs.Solver.{boundsFit, comparisonFits}
-use Rattle.solver.specs.Lists.{boundsOf, comparisonsOf}
+use Rattle.solver.specs.Lists.{boundsOf, coded, comparisonsOf}
 
 -- every value is of 32 bits; an i32 slice has no others, but a proof learns it only by reading them
 abbrev pub Words : List ℤ → Type 0
@@ -40,6 +40,11 @@ pub record Imposes (n : ℕ) (d : List ℕ) (a b added : ℕ) : Type 0 where
   pub right-in : b < n
   pub added-some : 0 < added
   pub added-most : added < 2 * level
+
+-- a zone of n columns, and a comparison of these
+pub record ImposesOne (n : ℕ) (d : List ℕ) (op left right : ℕ) (number : ℤ) : Type 0 where
+  pub in-array : InArray (n + 1) d
+  pub fit : T (comparisonFits n (coded op left right number))
 
 -- lists of equal length, which are comparisons of n columns
 pub record Listed (n : ℕ) (op left right : List ℕ) (number : List ℤ) : Type 0 where

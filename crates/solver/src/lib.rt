@@ -6,11 +6,11 @@ ghost use lib.IntN.{pos};
 ghost use Rattle.model.specs.Least.{leastRow};
 ghost use Rattle.zone.specs.Zone.{level, kept, leastOf};
 ghost use Rattle.zone.specs.Array.{zoneIn, laid};
-ghost use Rattle.solver.specs.Solver.{nodes, rowOf, boxOf, imposedBy, imposedAll};
-ghost use Rattle.solver.specs.Uses.{Words, WordNodes, BoundsRoom, Imposes, ImposesAll, LeastRoom, Solves};
-ghost use Rattle.solver.specs.Comparisons.{addedTo, atMostBy, one, between, against};
+ghost use Rattle.solver.specs.Solver.{nodes, rowOf, boxOf, imposedBy, imposed, imposedAll};
+ghost use Rattle.solver.specs.Uses.{Words, WordNodes, BoundsRoom, Imposes, ImposesOne, ImposesAll, LeastRoom, Solves};
+ghost use Rattle.solver.specs.Comparisons.{addedTo, atMostBy, one, between, against, negationsOf};
 ghost use Rattle.model.specs.Coded.{opAt, sideOf};
-ghost use Rattle.solver.specs.Lists.{boundsOf, comparisonsOf, isSome, reached, rowOrZeros};
+ghost use Rattle.solver.specs.Lists.{boundsOf, coded, comparisonsOf, isSome, reached, rowOrZeros};
 use zone::Constraint;
 
 // The ops that stand for a failed one.
@@ -74,7 +74,7 @@ pub fn between(op: u8, a: usize, b: usize, added: u64) -> Constraints
 }
 
 // The ways in which that comparison fails: the constraints of the ops that hold where this one doesn't.
-pub fn against(op: u8, a: usize, b: usize, added: u64) -> Constraints
+fn against(op: u8, a: usize, b: usize, added: u64) -> Constraints
     requires { ⌜ (0 < added) × (added < 2 * level) ⌝ }
     ensures { λ r. ⌜ r ≡ against (opAt op) a b added ⌝ }
 {
@@ -187,6 +187,36 @@ fn wide(b: u8) -> usize
     b as usize
 }
 
+// The ways in which a comparison fails; one of them holds where it doesn't.
+pub fn negations(op: u8, left: u8, right: u8, number: i32) -> Constraints
+    ensures { λ r. ⌜ r ≡ negationsOf (coded op left right number) ⌝ }
+{
+    against(op, wide(left) + 1, wide(right), added_to(right, number))
+}
+
+// Keeps the rows that meet a comparison; where there are none it says so, and leaves the zone as it is.
+pub fn impose_one(
+    d: &mut [u64; zone::SIZE],
+    columns: usize,
+    op: u8,
+    left: u8,
+    right: u8,
+    number: i32,
+) -> bool
+    requires { ⌜ ImposesOne columns (now d) op left right number ⌝ }
+    ensures answer { λ r. ⌜ r ≡ isSome (imposed (zoneIn (columns + 1) (now (d .entry))) (coded op left right number)) ⌝ }
+    ensures zone { λ _. ⌜ now (d .exit) ≡ laid (now (d .entry)) (kept (zoneIn (columns + 1) (now (d .entry))) (imposed (zoneIn (columns + 1) (now (d .entry))) (coded op left right number))) ⌝ }
+{
+    impose(
+        &mut *d,
+        columns + 1,
+        op,
+        wide(left) + 1,
+        wide(right),
+        added_to(right, number),
+    )
+}
+
 // Imposes a list of comparisons, one after the other, up to the first that leaves no row.
 pub fn impose_all(
     d: &mut [u64; zone::SIZE],
@@ -200,13 +230,9 @@ pub fn impose_all(
     ensures answer { λ r. ⌜ r ≡ isSome (imposedAll (zoneIn (columns + 1) (now (d .entry))) (comparisonsOf (now (op .entry)) (now (left .entry)) (now (right .entry)) (now (number .entry)))) ⌝ }
     ensures zone { λ _. ⌜ now (d .exit) ≡ laid (now (d .entry)) (reached (zoneIn (columns + 1) (now (d .entry))) (comparisonsOf (now (op .entry)) (now (left .entry)) (now (right .entry)) (now (number .entry)))) ⌝ }
 {
-    let n = columns + 1;
     let mut k = 0;
     while k < op.len() {
-        let a = wide(left[k]) + 1;
-        let b = wide(right[k]);
-        let added = added_to(right[k], number[k]);
-        if !impose(&mut *d, n, op[k], a, b, added) {
+        if !impose_one(&mut *d, columns, op[k], left[k], right[k], number[k]) {
             return false;
         }
         k += 1;

@@ -1,12 +1,12 @@
--- The solver takes a well-formed job's columns and conditions. Assumes nothing.
+-- The solver takes a well-formed job's columns and conditions: they fit, and so do their sizes. Assumes nothing.
 use mathlib.Core.Logic.{_⊎_, inl, inr}
 use mathlib.Core.Bool.{Bool, not, _&&_}
 use mathlib.Core.List.{List, [], _∷_, List·Memᴰ·not-nil, List·Memᴰ·append-cases}
-use Prim.Native.Nat.{ℕ}
+use Prim.Native.Nat.{ℕ, _<_, _≤_}
 use lib.ListN.{length}
 use lib.IntN.{ℤ, pos, negsuc}
 use lib.Signed.{leZ}
-use lib.Dec.{T, leb, ltb}
+use lib.Dec.{T, leb, ltb, leb→le, ltb→lt, lt→ltb}
 use mir.Facts.{and-yes, yes-and}
 use Rattle.words.specs.Bias.{bias}
 use Rattle.words.proofs.Order.{leZ-trans}
@@ -16,8 +16,13 @@ use Rattle.model.specs.WellFormed.{tableFormed, inScope, againstInScope, compar
 use Rattle.model.specs.Verdict.{columns}
 use Rattle.model.proofs.Lists.{all-has, has-all}
 use Rattle.model.proofs.Scope.{Formed, job-formed}
 use Rattle.solver.specs.Solver.{fits, boundsFit, againstFits, comparisonFits}
-use Rattle.cases.proofs.Conditions.{Fits}
+
+-- ---- a column
+
+-- at most a million either way
+abbrev pub near : Bounds → Bool
+near b = inRange (b .lo) && inRange (b .hi)
 
 range-fits : (v : ℤ) → T (inRange v) → T (fits v)
 range-fits v h =
@@ -38,42 +43,73 @@ columns-ordered (t ∷ ts) h {b} m =
     part front below (inl i) = all-has ordered i ((and-yes (not (isEmpty t)) (allOf ordered t) front) .1)
     part front below (inr i) = below i
 
+columns-fit : (ts : List Table) → T (allOf tableFormed ts) → T (allOf near (columnsOf ts)) → T (allOf boundsFit (columnsOf ts))
+columns-fit ts formed range = has-all boundsFit (columnsOf ts) (λ b m.
+    let (low, high) = and-yes (inRange (b .lo)) (inRange (b .hi)) (all-has near m range) in
+    let x = range-fits (b .lo) low in
+    let y = range-fits (b .hi) high in
+    let z = columns-ordered ts formed m in
+    search yes-and)
+
 -- ---- an expression
 
 pub record Taken (ts : List Table) (e : Expression) : Type 0 where
   pub formed : Formed ts e
-  pub fits : Fits (length (columnsOf ts)) (e .condition)
+  pub limits : T (conditionLimited (e .condition))
+  pub fit : T (allOf (allOf (comparisonFits (length (columnsOf ts)))) (e .condition))
 
 module _ (ts : List Table) (e : Expression) where
   abbrev n : ℕ
   n = length (columnsOf ts)
 
-  pub scope-declared : (c : ℕ) → T (inScope ts e c) → T (ltb c n)
-  scope-declared c h = (and-yes (ltb c n) (uses e (tableOf ts c)) h) .0
+  pub scope-declared : (c : ℕ) → T (inScope ts e c) → c < n
+  scope-declared c h = ltb→lt c n ((and-yes (ltb c n) (uses e (tableOf ts c)) h) .0)
 
   against-fits : (a : Against) → T (againstInScope ts e a) → T (againstLimited a) → T (againstFits n a)
-  against-fits (column c) h l = scope-declared c h
+  against-fits (column c) h l = lt→ltb c n (scope-declared c h)
   against-fits (number v) h l = range-fits v l
 
   expression-taken : Formed ts e → T (conditionLimited (e .condition)) → Taken ts e
   unfolding conditionLimited
   expression-taken f l = record {
     formed = f;
-    fits = λ c m.
+    limits = l;
+    fit = has-all (allOf (comparisonFits n)) (e .condition) (λ c m.
         let small : Clause → Bool = λ c. allOf (λ k. againstLimited (k .right)) c in
         let clauses = (and-yes (leb (length (e .condition)) 4) (allOf (λ c. leb (length c) 6 && small c) (e .condition)) l) .1 in
         let numbers = (and-yes (leb (length c) 6) (small c) (all-has (λ c. leb (length c) 6 && small c) m clauses)) .1 in
         has-all (comparisonFits n) c (λ k i.
         let (h, a) = and-yes (inScope ts e (k .left)) (againstInScope ts e (k .right))
         (all-has (comparisonFormed ts e) i (all-has (allOf (comparisonFormed ts e)) m (f .condition))) in
-        yes-and (ltb (k .left) n) (againstFits n (k .right)) (scope-declared (k .left) h)
-        (against-fits (k .right) a (all-has (λ k. againstLimited (k .right)) i numbers)));
+        yes-and (ltb (k .left) n) (againstFits n (k .right)) (lt→ltb (k .left) n (scope-declared (k .left) h))
+        (against-fits (k .right) a (all-has (λ k. againstLimited (k .right)) i numbers))));
   }
+
+module _ {ts : List Table} {e : Expression} (taken : Taken ts e) where
+  pub few-clauses : length (e .condition) ≤ 4
+  unfolding conditionLimited
+  few-clauses =
+      let each : Clause → Bool = λ c. leb (length c) 6 && allOf (λ k. againstLimited (k .right)) c in
+      leb→le (length (e .condition)) 4 ((and-yes (leb (length (e .condition)) 4) (allOf each (e .condition)) (taken .limits)) .0)
+
+  pub few-comparisons : (c : Clause) → c ∈ e .condition → length c ≤ 6
+  unfolding conditionLimited
+  few-comparisons c m =
+      let small : Clause → Bool = λ c. allOf (λ k. againstLimited (k .right)) c in
+      let each : Clause → Bool = λ c. leb (length c) 6 && small c in
+      let clauses = (and-yes (leb (length (e .condition)) 4) (allOf each (e .condition)) (taken .limits)) .1 in
+      leb→le (length c) 6 ((and-yes (leb (length c) 6) (small c) (all-has each m clauses)) .0)
+
+  pub outputs-declared : (c : ℕ) → c ∈ e .outputs → c < length (columnsOf ts)
+  outputs-declared c m = scope-declared ts e c (all-has (inScope ts e) m (taken .formed .outputs))
 
 -- ---- a job
 
 pub record JobTaken (j : Job) : Type 0 where
   pub tables : T (allOf tableFormed (j .tables))
+  pub some-column : 1 ≤ length (columns j)
+  pub few-columns : length (columns j) ≤ 16
+  pub range : T (allOf near (columns j))
   pub bounds : T (allOf boundsFit (columns j))
   pub extract : Taken (j .tables) (j .extract)
   pub query : Taken (j .tables) (j .query)
@@ -83,19 +119,20 @@ unfolding wellFormed limited
 job-taken j w =
     let (s, l) = and-yes (structured j) (limited j) w in
     let formed = job-formed j s in
-    let small : Bounds → Bool = λ b. inRange (b .lo) && inRange (b .hi) in
-    let sized = leb 1 (length (j .tables)) && leb (length (j .tables)) 4 && leb 1 (length (columns j)) && leb (length (columns j)) 16 in
-    let (l₂, q) = and-yes (sized && allOf small (columns j) && conditionLimited (j .extract .condition)) (conditionLimited (j .query .condition)) l in
-    let (l₁, e) = and-yes (sized && allOf small (columns j)) (conditionLimited (j .extract .condition)) l₂ in
-    let range = (and-yes sized (allOf small (columns j)) l₁) .1 in
+    let n = length (columns j) in
+    let counted = leb 1 (length (j .tables)) && leb (length (j .tables)) 4 in
+    let extract = conditionLimited (j .extract .condition) in
+    let (l₅, q) = and-yes (counted && leb 1 n && leb n 16 && allOf near (columns j) && extract) (conditionLimited (j .query .condition)) l in
+    let (l₄, e) = and-yes (counted && leb 1 n && leb n 16 && allOf near (columns j)) extract l₅ in
+    let (l₃, range) = and-yes (counted && leb 1 n && leb n 16) (allOf near (columns j)) l₄ in
+    let (l₂, most) = and-yes (counted && leb 1 n) (leb n 16) l₃ in
+    let (l₁, some) = and-yes counted (leb 1 n) l₂ in
     record {
       tables = formed .tables;
-      bounds = has-all boundsFit (columns j) (λ b m.
-          let (low, high) = and-yes (inRange (b .lo)) (inRange (b .hi)) (all-has small m range) in
-          let x = range-fits (b .lo) low in
-          let y = range-fits (b .hi) high in
-          let z = columns-ordered (j .tables) (formed .tables) m in
-          search yes-and);
+      some-column = leb→le 1 n some;
+      few-columns = leb→le n 16 most;
+      range = range;
+      bounds = columns-fit (j .tables) (formed .tables) range;
       extract = expression-taken (j .tables) (j .extract) (formed .extract) e;
       query = expression-taken (j .tables) (j .query) (formed .query) q;
     }
