@@ -5,7 +5,7 @@ use mathlib.Core.List.{List, [], _∷_, _++_, map, List·Memᴰ·head, List·Mem
 use Prim.Native.Nat.{ℕ, zero, suc, _+_, _-_, _<_, _≤_, zero-le, suc-le-suc}
 use native.Mathlib.Nat.{not-suc-le-zero, le-of-suc-le-suc}
 use native.Mathlib.Omega.{arith}
-use lib.ListN.{length, getD, take, drop, length-append, length-map, List·getD-append}
+use lib.ListN.{length, getD, take, drop, length-append, length-map, length-drop, List·getD-append}
 use lib.Seq.{take-at, drop-at, getD-take, getD-drop, getD-append-add, length-take-le}
 use lib.IntN.{pos}
 use lib.Signed.{leZ}
@@ -17,10 +17,10 @@ use Rattle.model.specs.Tables.{Table, Row, TableRow, value, tableOf, par
 use Rattle.model.specs.WellFormed.{tableFormed}
 use Rattle.model.proofs.Lists.{pairwise-length, pairwise-append, pairwise-split, T-is, flatMap-has, has-flatMap, flatMap-nil}
 
-abbrev lows : Table → TableRow
+abbrev pub lows : Table → TableRow
 lows b = map (λ c. c .lo) b
 
-lows-within : (bs : Table) → T (allOf (λ b. leZ (b .lo) (b .hi)) bs) → T (within bs (lows bs))
+pub lows-within : (bs : Table) → T (allOf (λ b. leZ (b .lo) (b .hi)) bs) → T (within bs (lows bs))
 lows-within [] p = tt
 lows-within (b ∷ bs) p =
     let (h, k) = and-yes (leZ (b .lo) (b .hi)) (allOf (λ b. leZ (b .lo) (b .hi)) bs) p in
@@ -123,14 +123,16 @@ past x y r n c e le h =
     ap (λ (i : ℕ). value (x ++ y) i) (sym k) ∙ getD-append-add x y (c - n) (pos 0) ∙ h ∙ getD-drop n r (c - n) (pos 0) ∙ ap (λ (i : ℕ). value r i) l
 
 -- it has the row's value in every column of a used table
-pub blend-value : (u : ℕ → Bool) (ts : List Table) (r : Row) (c : ℕ) → T (within (columnsOf ts) r) → c < length (columnsOf ts)
+pub blend-value : (u : ℕ → Bool) (ts : List Table) (r : Row) (c : ℕ) → length r ≡ length (columnsOf ts) → c < length (columnsOf ts)
     → T (u (tableOf ts c)) → value (blend u ts r) c ≡ value r c
 blend-value u [] r c w lt h = absurd (not-suc-le-zero lt)
-blend-value u (b ∷ bs) r c w lt h =
-    go (ltb c (length b)) refl (blend-value (after u) bs (drop (length b) r) (c - length b) ((pairwise-split inside b (concat bs) r w) .1))
+blend-value u (b ∷ bs) r c w lt h = go (ltb c (length b)) refl (blend-value (after u) bs (drop (length b) r) (c - length b) shorter)
   where
     long : length b ≤ length r
-    long = let k = pairwise-length inside (b ++ concat bs) r w in omega (arith, length-append b (concat bs))
+    long = omega (arith, length-append b (concat bs))
+
+    shorter : length (drop (length b) r) ≡ length (concat bs)
+    shorter = rw (length-drop (length b) r) (omega (arith, length-append b (concat bs)))
 
     width : (a : Bool) → length (cond a (take (length b) r) (lows b)) ≡ length b
     width true = length-take-le (length b) r long

@@ -9,5 +9,6 @@ pub mod Computable
 pub mod Running
 pub mod Evidence
 pub mod Listing
+pub mod Unused
 pub mod Least
 pub mod Theorems

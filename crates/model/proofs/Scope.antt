@@ -8,10 +8,10 @@ use lib.ListN.{length}
 use mir.Facts.{and-yes}
 use lib.Dec.{T, eqb, ltb, ltb→lt, eqb→eq, eqb-refl, T-not}
 use Rattle.model.specs.Lists.{_∈_, allOf, filter, isEmpty}
-use Rattle.model.specs.Tables.{Table, Row, TableRow, OutputRow, Against, column, number, Comparison, Clause, Condition, Expression, value, operand, comparisonHolds, clauseHolds, conditionHolds, meets, outputsOf, uses, tableOf, partOf, within, Database, WithinBounds, combinations, rowsOf, columnsOf, Job}
+use Rattle.model.specs.Tables.{Table, Row, TableRow, OutputRow, Against, column, number, Comparison, Clause, Condition, Expression, value, operand, comparisonHolds, clauseHolds, conditionHolds, meets, outputsOf, uses, tableOf, partOf, inside, within, Database, WithinBounds, combinations, rowsOf, columnsOf, Job}
 use Rattle.model.specs.WellFormed.{inScope, againstInScope, noRepeats, comparisonFormed, ascending, tableFormed, expressionFormed, structured}
 use Rattle.model.specs.Verdict.{usesOther}
-use Rattle.model.proofs.Lists.{any-has, has-any, all-has, filter-has, has-filter, stable}
+use Rattle.model.proofs.Lists.{any-has, has-any, all-has, filter-has, has-filter, pairwise-length, stable}
 use Rattle.model.proofs.Combinations.{Combines, combinations-within, combinations-combine, combine-combinations, combinations-cong, combinations-more, combinations-none, combinations-one, blend, blend-value}
 
 -- ---- what the theorems need of a well-formed expression
@@ -43,7 +43,7 @@ module _ (e : Expression) where
   unfolding uses
   member-used {t} m = has-any (eqb t) m (eqb-refl t)
 
-  used-declared : (ts : List Table) → Formed ts e → (t : ℕ) → T (uses e t) → t < length ts
+  pub used-declared : (ts : List Table) → Formed ts e → (t : ℕ) → T (uses e t) → t < length ts
   unfolding uses
   used-declared ts f t u =
       let (x, m, h) = any-has (eqb t) (e .used) u in
@@ -135,7 +135,7 @@ module _ (ts : List Table) (e : Expression) (f : Formed ts e) (r : Row) (w : T (
   mixed-value : (c : ℕ) → T (inScope ts e c) → value mixed c ≡ value r c
   mixed-value c t =
       let (lt, u) = and-yes (ltb c (length (columnsOf ts))) (uses e (tableOf ts c)) t in
-      blend-value (uses e) ts r c w (ltb→lt c (length (columnsOf ts)) lt) u
+      blend-value (uses e) ts r c (pairwise-length inside (columnsOf ts) r w) (ltb→lt c (length (columnsOf ts)) lt) u
 
   mixed-meets : meets e mixed ≡ meets e r
   mixed-meets = same-meets ts e mixed r mixed-value f

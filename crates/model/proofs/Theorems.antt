@@ -29,6 +29,7 @@ use Rattle.model.proofs.Verdict.{never-met}
 use Rattle.model.proofs.Running as running
 use Rattle.model.proofs.Scope.{JobFormed, is-formed, job-formed, same-meets, same-outputs, rows-are, rows-cong}
 use Rattle.model.proofs.Evidence as found
+use Rattle.model.proofs.Unused.{SameTables, jobOf, used, same-kind, same-listing}
 use Rattle.model.proofs.Listing.{listing-0, listing-1, listing-2, listing-most}
 
 -- ---- what the searches over all rows, conditions and an expression's rows mean
@@ -70,6 +71,14 @@ module _ (ts : List Table) (e : Expression) (formed : T (expressionFormed ts e))
       → (o ∈ rowsOf ts e d)
       ↔ ((r : Row) × T (within (columnsOf ts) r) × ((t : ℕ) → t < length ts → T (uses e t) → partOf ts r t ∈ d t) × T (meets e r) × (outputsOf e r ≡ o))
   expression-rows d f w o = rows-are ts e d f (is-formed ts e formed) w o
+
+-- a table that neither expression uses plays no part in the verdict: whatever bounds its columns have, kind and listing are the same
+pub unused-tables : (ts us : List Table) (e q : Expression) → T (structured (jobOf ts e q)) → T (structured (jobOf us e q)) → SameTables (used e q) ts us
+    → (kindOf (jobOf us e q) ≡ kindOf (jobOf ts e q)) × ((c : ℕ) → c < length (columnsOf ts) → listingOf (jobOf us e q) c ≡ listingOf (jobOf ts e q) c)
+unused-tables ts us e q f g same =
+    let a = job-formed (jobOf ts e q) f in
+    let b = job-formed (jobOf us e q) g in
+    (same-kind ts us e q a b same, same-listing ts us e q a b same)
 
 -- where no row meets the query's condition the kind is 0, whatever else holds
 pub query-never-met : (j : Job) → T (not (someRow (columns j) (meetsQuery j))) → kindOf j ≡ 0
