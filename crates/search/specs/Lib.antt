@@ -1,0 +1,4 @@
+pub mod Search
+pub mod Pairs
+pub mod Records
+pub mod Uses
