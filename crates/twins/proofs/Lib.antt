@@ -1,0 +1,9 @@
+pub mod Lists
+pub mod Twins
+pub mod Renamed
+pub mod Names
+pub mod Filled
+pub mod Twinned
+pub mod Within
+pub mod Separating
+pub mod Marking

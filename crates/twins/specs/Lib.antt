@@ -1,0 +1,4 @@
+pub mod Twins
+pub mod Records
+pub mod Marks
+pub mod Uses
