@@ -1,0 +1,14 @@
+pub mod Reduced
+pub mod Limits
+pub mod Decided
+pub mod Shown
+pub mod Finding
+pub mod Handed
+pub mod Rooms
+pub mod Databases
+pub mod Asked
+pub mod Listing
+pub mod Pairing
+pub mod Pairs
+pub mod Ready
+pub mod Handing

@@ -1,0 +1,106 @@
+-- The least row is read with zeros behind it, and two databases are made of it as the kind says. Assumes nothing.
+use mathlib.Core.Path.{_≡_, sym, ap, _∙_}
+use mathlib.Core.List.{List, _++_, map}
+use Prim.Native.Nat.{ℕ, zero, suc, _+_, _-_, _<_, _≤_}
+use native.Mathlib.Omega.{arith}
+use lib.ListN.{length, take, drop, replicate, length-map, length-drop, length-replicate, List·getD-eq-default}
+use lib.Seq.{take-append-le}
+use lib.IntN.{ℤ, pos}
+use borrow.Author.Tests.{le-leb, lt-leb, ne-eqb}
+use Rattle.words.specs.Bias.{bias, unbiased}
+use Rattle.model.specs.Tables.{Row, value}
+use Rattle.zone.specs.Matrix.{at}
+use Rattle.zone.specs.Zone.{leastOf}
+use Rattle.zone.specs.Array.{zoneIn}
+use Rattle.zone.proofs.Cases.{by-less}
+use Rattle.solver.specs.Uses.{LeastRoom}
+use Rattle.job.specs.declared.Job.{Job}
+use Rattle.job.specs.Record.{padded}
+use Rattle.job.proofs.Padded.{getD-padded, padded-past}
+use Rattle.twins.specs.declared.TwinRows.{TwinRows}
+use Rattle.twins.specs.Twins.{below}
+use Rattle.twins.proofs.Lists.{map-cong}
+use Rattle.verdict.specs.declared.Database.{Database}
+use Rattle.verdict.specs.declared.Pair.{Pair}
+use Rattle.verdict.specs.Databases.{noDatabase, rowRecord, reducedRecord, leastIn, firstIn, secondIn, onePair, twoPair, pairRecord, shownColumns}
+use Rattle.verdict.specs.Uses.{HasLeast}
+
+-- ---- the least row
+zeros-behind : (n m : ℕ) → drop n (replicate m (pos 0)) ≡ replicate (m - n) (pos 0)
+zeros-behind zero m = let all : m ≡ m - 0 = omega arith in ap (λ (k : ℕ). replicate k (pos 0)) all
+zeros-behind (suc n) zero = let none : 0 ≡ 0 - suc n = omega arith in ap (λ (k : ℕ). replicate k (pos 0)) none
+zeros-behind (suc n) (suc m) = let same : m - n ≡ suc m - suc n = omega arith in zeros-behind n m ∙ ap (λ (k : ℕ). replicate k (pos 0)) same
+
+module _ (n : ℕ) (d : List ℕ) (has : HasLeast n d) where
+  room : LeastRoom d (replicate n (pos 0))
+  room = has (replicate n (pos 0)) (length-replicate n (pos 0))
+
+  pub least-few : n ≤ 32
+  least-few = omega (arith, room .in-array .small, length-replicate n (pos 0))
+
+  pub least-size : length (leastIn n d) ≡ n
+  least-size =
+      let nodes : length (leastOf (zoneIn (n + 1) d)) ≡ n + 1 = rw (length-replicate n (pos 0)) at (room .words .size) in
+      length-map (drop 1 (leastOf (zoneIn (n + 1) d))) (unbiased bias) ∙ omega (arith, length-drop 1 (leastOf (zoneIn (n + 1) d)))
+
+  pub least-read : {row : List ℤ} → row ≡ leastIn n d → row ++ drop n (replicate 32 (pos 0)) ≡ padded 32 (pos 0) (leastIn n d)
+  least-read e =
+      ap (λ (xs : List ℤ). xs ++ drop n (replicate 32 (pos 0))) e
+      ∙ ap (λ (zs : List ℤ). leastIn n d ++ zs) (zeros-behind n 32 ∙ ap (λ (k : ℕ). replicate (32 - k) (pos 0)) (sym least-size))
+
+-- ---- the rows in it
+padded-value : (n : ℕ) (row : Row) (k : ℕ) → value (padded n (pos 0) row) k ≡ value row k
+padded-value n row k =
+    by-less k (length row) (getD-padded n (pos 0) row k (pos 0)) (λ h.
+    padded-past n (pos 0) row k h ∙ sym (List·getD-eq-default row (pos 0) h))
+
+module _ (n : ℕ) (row : Row) {least : List ℤ} (e : least ≡ padded 32 (pos 0) row) where
+  pub first-read : n ≤ length row → {one : List ℤ} → one ≡ padded 16 (pos 0) (take n least) → one ≡ firstIn n row
+  first-read h f =
+      f ∙ ap (λ (xs : List ℤ). padded 16 (pos 0) (take n xs)) e
+      ∙ ap (padded 16 (pos 0)) (take-append-le n row (replicate (32 - length row) (pos 0)) h)
+
+  pub second-read : (twin : List ℕ) → {other : List ℤ} → other ≡ padded 16 (pos 0) (map (λ c. value least (at twin c)) (below n)) → other ≡ secondIn n twin row
+  second-read twin f =
+      f ∙ ap (λ (xs : List ℤ). padded 16 (pos 0) (map (λ c. value xs (at twin c)) (below n))) e
+      ∙ ap (padded 16 (pos 0)) (map-cong (λ c. value (padded 32 (pos 0) row) (at twin c)) (λ c. value row (at twin c)) (below n) (λ c _.
+      padded-value 32 row (at twin c)))
+
+-- ---- the databases
+abbrev pair : Database → Database → Pair
+pair a b = record { first = a; second = b }
+
+module _ (r : Job) (row : Row) {a b : Database} (e : a ≡ rowRecord r (firstIn (r .width) row)) where
+  pub one-reduced : (kind : ℕ) → kind ≡ 1 → b ≡ reducedRecord r (firstIn (r .width) row) → pair a b ≡ onePair r kind row
+  unfolding onePair
+  one-reduced kind k f = rw (k, e, f)
+
+  pub one-none : (kind : ℕ) → ¬ (kind ≡ 1) → b ≡ noDatabase → pair a b ≡ onePair r kind row
+  unfolding onePair
+  one-none kind k f = rw (ne-eqb kind 1 k, e, f)
+
+  pub two-made : (twin : List ℕ) → b ≡ rowRecord r (secondIn (r .width) twin row) → pair a b ≡ twoPair r twin row
+  unfolding twoPair
+  two-made twin f = rw (e, f)
+
+module _ (r : Job) (twin : List ℕ) (kind : ℕ) (row : Row) where
+  pub pair-none : kind ≡ 0 → {a b : Database} → a ≡ noDatabase → b ≡ noDatabase → pair a b ≡ pairRecord r twin kind row
+  unfolding pairRecord
+  pair-none k e f = rw (k, e, f)
+
+  module _ (some : 0 < kind) where
+    pub pair-one : kind ≤ 2 → pairRecord r twin kind row ≡ onePair r kind row
+    unfolding pairRecord
+    pair-one h = rw (ne-eqb kind 0 (λ e. omega arith), le-leb kind 2 h)
+
+    pub pair-two : 2 < kind → pairRecord r twin kind row ≡ twoPair r twin row
+    unfolding pairRecord
+    pair-two h = rw (ne-eqb kind 0 (λ e. omega arith), lt-leb kind 2 h)
+
+-- the row is of as many columns as the kind calls for
+module _ (r : Job) (rows : TwinRows) (kind : ℕ) where
+  pub shown-one : kind ≤ 2 → r .width ≡ shownColumns r rows kind
+  shown-one h = rw (le-leb kind 2 h)
+
+  pub shown-two : 2 < kind → rows .columns ≡ shownColumns r rows kind
+  shown-two h = rw (lt-leb kind 2 h)

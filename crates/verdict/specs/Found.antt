@@ -1,0 +1,117 @@
+-- The kind, the columns that aren't fixed and the two databases of a job, by searches over its rows and over two rows as one.
+use mathlib.Core.Bool.{Bool, false, cond, _&&_}
+use mathlib.Core.List.{List, []}
+use mathlib.Core.Option.{Option, none, some}
+use Prim.Native.Nat.{ℕ}
+use lib.ListN.{length}
+use lib.Dec.{eqb, leb}
+use Rattle.model.specs.Tables.{Bounds, Row, Condition, Job, Database}
+use Rattle.model.specs.Verdict.{columns, tablesDiffer, firstKind}
+use Rattle.model.specs.Pair.{rowDatabase, reducedDatabase, emptyDatabase}
+use Rattle.zone.specs.Zone.{Zone, leastOf}
+use Rattle.solver.specs.Solver.{boxOf, rowOf, andThen, imposedAll}
+use Rattle.solver.specs.Lists.{isSome}
+use Rattle.search.specs.Search.{choicesOf, orElse, firstOf, met, outside}
+use Rattle.search.specs.Pairs.{pairsOf, someApart, ifDiffer}
+use Rattle.twins.specs.Twins.{twinOf, twinBounds, firstRow, secondRow, renamed}
+
+-- the least row of a zone that was found
+abbrev pub leastFound : Option Zone → Row
+leastFound none = []
+leastFound (some y) = rowOf (leastOf y)
+
+module _ (j : Job) where
+  -- ---- Two rows that agree in the stored columns, as one
+
+  -- where the second row's value in a column stands
+  abbrev pub twin : ℕ → ℕ
+  twin = twinOf (length (columns j)) (j .extract .outputs)
+
+  abbrev pub bothBounds : List Bounds
+  bothBounds = twinBounds (length (columns j)) (j .extract .outputs) (columns j)
+
+  abbrev pub oneRow : Row → Row
+  oneRow = firstRow (length (columns j)) (j .extract .outputs)
+
+  abbrev pub otherRow : Row → Row
+  otherRow = secondRow (length (columns j)) (j .extract .outputs)
+
+  -- ---- The conditions, of the first row and of the second
+
+  -- the extract keeps the row
+  abbrev pub keepsOne : Condition
+  keepsOne = j .extract .condition
+
+  abbrev pub keepsOther : Condition
+  keepsOther = renamed twin keepsOne
+
+  -- the query wants it
+  abbrev pub wantsOne : Condition
+  wantsOne = j .query .condition
+
+  abbrev pub wantsOther : Condition
+  wantsOther = renamed twin wantsOne
+
+  -- ---- The searches
+
+  -- every row, and every two rows as one
+  abbrev pub box : Zone
+  box = boxOf (columns j)
+
+  abbrev pub box2 : Zone
+  box2 = boxOf bothBounds
+
+  -- rows that the query wants
+  unfoldable pub found1 : Option Zone
+  found1 = met box wantsOne
+
+  -- and that the extract doesn't keep
+  unfoldable pub found2 : Option Zone
+  found2 = outside box wantsOne (choicesOf keepsOne)
+
+  -- where that finds none: two rows of which the query wants only the first, while the extract keeps the second too
+  unfoldable pub found3 : Option Zone
+  found3 = firstOf keepsOther (λ c. andThen (imposedAll box2 c) (λ y. outside y wantsOne (choicesOf wantsOther)))
+
+  -- two that the query wants, with different values in an output
+  unfoldable pub found4 : Option Zone
+  found4 = pairsOf box2 wantsOne wantsOther (someApart twin (j .query .outputs))
+
+  -- two that the extract keeps have different values in column c
+  unfoldable pub unfixedIn : ℕ → Bool
+  unfixedIn c = isSome (pairsOf box2 keepsOne keepsOther (ifDiffer c (twin c)))
+
+  -- ---- The kind, and the zone of the rows that show it
+
+  unfoldable pub foundKind : ℕ
+  foundKind = firstKind (tablesDiffer j && isSome found1) (isSome found2) (isSome found3) (isSome found4)
+
+  unfoldable pub finding : Option Zone
+  finding = orElse (cond (tablesDiffer j) found1 none) (orElse found2 (orElse found3 found4))
+
+  -- the same of one row, kinds 1 and 2, and of two, kinds 3 and 4
+  unfoldable pub oneKind : ℕ
+  oneKind = firstKind (tablesDiffer j && isSome found1) (isSome found2) false false
+
+  unfoldable pub oneFound : Option Zone
+  oneFound = orElse (cond (tablesDiffer j) found1 none) found2
+
+  unfoldable pub twoKind : ℕ
+  twoKind = firstKind false false (isSome found3) (isSome found4)
+
+  unfoldable pub twoFound : Option Zone
+  twoFound = orElse found3 found4
+
+  -- ---- The two databases, of a kind and the row that shows it
+
+  unfoldable pub firstBy : ℕ → Row → Database
+  firstBy k r = cond (eqb k 0) emptyDatabase (cond (leb k 2) (rowDatabase j r) (rowDatabase j (oneRow r)))
+
+  unfoldable pub secondBy : ℕ → Row → Database
+  secondBy k r = cond (eqb k 1) (reducedDatabase j r) (cond (leb k 2) emptyDatabase (rowDatabase j (otherRow r)))
+
+  unfoldable pub firstHanded : Database
+  firstHanded = firstBy foundKind (leastFound finding)
+
+  unfoldable pub secondHanded : Database
+  secondHanded = secondBy foundKind (leastFound finding)

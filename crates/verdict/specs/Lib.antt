@@ -1,0 +1,5 @@
+pub mod Found
+pub mod Databases
+pub mod Listing
+pub mod Uses
+pub mod Verdict
