@@ -2,4 +2,5 @@ pub mod Copied
 pub mod Judged
 pub mod Outcomes
 pub mod Counts
+pub mod Deciding
 pub mod Theorems

@@ -6,9 +6,11 @@ ghost use lib.ListN.{length, drop};
 ghost use Rattle.layout.specs.Reading.{readOf};
 ghost use Rattle.codec.specs.Answers.{decodedOf};
 ghost use Rattle.pobghine.specs.Records.{isRead, writtenOf, lentAfter};
+ghost use Rattle.pobghine.specs.Deciding.{decisionOf, listingIn, PairOf};
 use codec::Answer;
 use codec::Decoded;
 use job::Job;
+use verdict::Database;
 
 // Reads a job: its record, or a refusal with the empty record beside it.
 pub fn read(s: &[u8]) -> Decoded
@@ -65,4 +67,46 @@ pub fn write(job: Job, out: &mut [u8]) -> Written
     }
     copy(&bytes[..n], &mut *out);
     Written::Count(n)
+}
+
+// What deciding answers: the kind, or a refusal with its number and position.
+pub enum Decision {
+    Kind(u8),
+    Refused(u8, usize),
+}
+
+// The answer, and beside it the listing and the two databases.
+pub struct Decided {
+    pub answer: Decision,
+    pub listing: [u8; Job::COLUMNS],
+    pub first: Database,
+    pub second: Database,
+}
+
+// Decides whether the extract determines the query. Only the two databases are free.
+pub fn decide(job: Job) -> Decided
+    ensures answer { λ r. ⌜ r .answer ≡ decisionOf job ⌝ }
+    ensures listing { λ r. ⌜ r .listing ≡ listingIn job ⌝ }
+    ensures databases { λ r. ⌜ PairOf job (r .first) (r .second) ⌝ }
+{
+    if !is_read(job) {
+        let none = verdict::no_database();
+        return Decided {
+            answer: Decision::Refused(12, 0),
+            listing: [0; Job::COLUMNS],
+            first: none,
+            second: none,
+        };
+    }
+    let v = verdict::decide(job);
+    let kind = v.kind;
+    let listing = v.listing;
+    let first = v.first;
+    let second = v.second;
+    Decided {
+        answer: Decision::Kind(kind),
+        listing,
+        first,
+        second,
+    }
 }

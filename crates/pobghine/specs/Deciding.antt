@@ -1,0 +1,30 @@
+-- What deciding answers for any record, and what stands beside the answer (document 01, "The verdict").
+use mathlib.Core.Path.{_≡_}
+use mathlib.Core.Bool.{false, cond}
+use mathlib.Core.List.{List}
+use Prim.Native.Nat.{ℕ}
+use lib.ListN.{replicate}
+use lib.Dec.{T}
+use Rattle.model.specs.Verdict.{kindOf}
+use Rattle.job.specs.declared.Job.{Job}
+use Rattle.job.specs.Meaning.{meaningOf}
+use Rattle.verdict.specs.declared.Database.{Database}
+use Rattle.verdict.specs.Databases.{noDatabase}
+use Rattle.verdict.specs.Verdict.{listingRecord, HandsOut}
+use Rattle.pobghine.specs.declared.Decision.{Decision}
+use Rattle.pobghine.specs.declared.Decision.the-variants.{Kind, Refused}
+use Rattle.pobghine.specs.Records.{isRead}
+
+-- 12, or the kind
+unfoldable pub decisionOf : Job → Decision
+decisionOf r = cond (isRead r) (Kind (kindOf (meaningOf r))) (Refused 12 0)
+
+-- one number for each declared column, zeros behind, and zeros alone under 12
+unfoldable pub listingIn : Job → List ℕ
+listingIn r = cond (isRead r) (listingRecord r) (replicate 16 0)
+
+-- The two databases: the one thing that no definition decides. Of a record that reading gives it is what document 01 asks of them; under 12 they
+-- have no row.
+pub record PairOf (r : Job) (d f : Database) : Type 0 where
+  pub given : T (isRead r) → HandsOut r d f
+  pub refused : isRead r ≡ false → (d ≡ noDatabase) × (f ≡ noDatabase)
