@@ -1,14 +1,17 @@
 // Reads jobs from standard input, and writes an answer to each to standard output.
 //
 // A job is two bytes, the number of its bytes, and then those. An answer is a byte, the number of the refusal or 0, and four bytes: the
-// refusal's position or, with 0, the number of bytes that the job is written as; and then those. All numbers have their low byte first. Where
-// the input ends within a job, nothing more is answered.
+// refusal's position or, with 0, the number of bytes that the job is written as; and then those, and the verdict. A verdict is the kind, a byte
+// for each of 16 columns, and two databases: for each of 4 tables a byte, 1 where it has its row, and for each column its value in four bytes.
+// All numbers have their low byte first. Where the input ends within a job, nothing more is answered.
 use codec::Answer;
 use job::Job;
 use libc::STDIN_FILENO;
 use libc::STDOUT_FILENO;
+use pobghine::Decision;
 use pobghine::Written;
-ghost use Prim.Native.Nat.{_<_, _≤_};
+use verdict::Database;
+ghost use Prim.Native.Nat.{_+_, _<_, _≤_};
 ghost use lib.ListN.{length};
 
 fn wide(b: u8) -> usize
@@ -17,7 +20,7 @@ fn wide(b: u8) -> usize
     b as usize
 }
 
-// This function and the next three answer whether a further job may follow.
+// The functions that answer with a bool say whether a further job may follow.
 fn put_head(number: u8, n: usize) -> bool {
     let head = [
         number,
@@ -29,6 +32,43 @@ fn put_head(number: u8, n: usize) -> bool {
     io::write_all(STDOUT_FILENO, &head)
 }
 
+// A database from a place on.
+fn put_database(d: Database, out: &mut [u8], at: usize)
+    requires { ⌜ at + 68 ≤ length (now out) ⌝ }
+{
+    let present = d.present;
+    let values = d.values;
+    let mut t = 0;
+    while t < Job::TABLES {
+        out[at + t] = if present[t] { 1 } else { 0 };
+        t += 1;
+    }
+    let mut c = 0;
+    while c < Job::COLUMNS {
+        words::write(&mut *out, at + Job::TABLES + c * 4, values[c]);
+        c += 1;
+    }
+}
+
+fn put_verdict(job: Job) -> bool {
+    let d = pobghine::decide(job);
+    let answer = d.answer;
+    let Decision::Kind(kind) = answer else {
+        return false;
+    };
+    let listing = d.listing;
+    let mut out = [0u8; 153];
+    out[0] = kind;
+    let mut c = 0;
+    while c < Job::COLUMNS {
+        out[c + 1] = listing[c];
+        c += 1;
+    }
+    put_database(d.first, &mut out, 17);
+    put_database(d.second, &mut out, 85);
+    io::write_all(STDOUT_FILENO, &out)
+}
+
 fn answer_whole(job: Job) -> bool {
     let mut out = [0u8; codec::MOST];
     let written = pobghine::write(job, &mut out);
@@ -38,7 +78,10 @@ fn answer_whole(job: Job) -> bool {
             if !put_head(0, n) {
                 return false;
             }
-            io::write_all(STDOUT_FILENO, &out[..n])
+            if !io::write_all(STDOUT_FILENO, &out[..n]) {
+                return false;
+            }
+            put_verdict(job)
         },
     }
 }

@@ -29,4 +29,6 @@ answer-whole-spec =
     (λ c. sym (length-take-le _ _ (fits (c .before .before .before .before))))
     (λ c κs. search needs)
     (λ c. search needs)
+    (λ c κs. search needs)
+    (λ c. search needs)
     (λ c. search needs))
