@@ -1,7 +1,9 @@
 pub mod Lists
+pub mod Rows
 pub mod Twins
 pub mod Renamed
 pub mod Names
+pub mod Mapped
 pub mod Filled
 pub mod Twinned
 pub mod Within

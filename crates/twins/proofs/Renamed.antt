@@ -9,7 +9,8 @@ use Rattle.model.specs.Lists.{allOf}
 use Rattle.model.specs.Tables.{Table, Row, Against, column, number, Clause, Condition, Expression, columnsOf, value, operand, clauseHolds, conditionHolds}
 use Rattle.model.specs.WellFormed.{inScope, againstInScope, comparisonFormed}
 use Rattle.solver.proofs.Formed.{scope-declared}
-use Rattle.twins.specs.Twins.{twinOf, firstRow, secondRow, renamedSide, renamedComparison, renamed}
+use Rattle.twins.specs.Twins.{twinOf, renamedSide, renamedComparison, renamed}
+use Rattle.twins.proofs.Rows.{firstRow, secondRow}
 use Rattle.twins.proofs.Twins.{first-value, second-value}
 
 -- ---- where s has in each column that may be named the value that r has in that column's new name

@@ -19,7 +19,8 @@ use Rattle.job.specs.Meaning.{boundsOf}
 use Rattle.job.proofs.Meaning.{take-padded}
 use Rattle.job.proofs.Padded.{mapped-more, map-more}
 use Rattle.twins.specs.declared.TwinRows.{TwinRows}
-use Rattle.twins.specs.Twins.{below, isStored, hidden, rank, twinOf, twinBounds, firstRow, secondRow}
+use Rattle.twins.specs.Twins.{below, isStored, hidden, rank, twinOf, twinBounds}
+use Rattle.twins.proofs.Rows.{firstRow, secondRow}
 use Rattle.twins.specs.Records.{twinsOf, columnMore, twinMore, taken, twinsRecord}
 use Rattle.twins.specs.Uses.{TwinsRoom, Names, TwinsStand}
 use Rattle.twins.proofs.Lists.{filter-append, filter-length, map-at, map-cong}

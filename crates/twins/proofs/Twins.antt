@@ -19,7 +19,8 @@ use Rattle.model.specs.Tables.{Bounds, Row, value, inside, within}
 use Rattle.model.specs.Rows.{someRow, twoRows, sameRow}
 use Rattle.model.proofs.Lists.{T-is, not-is, any-has, has-any, all-has, has-all, filter-has, pairwise-length, pairwise-append, pairwise-split}
 use Rattle.model.proofs.Rows.{some-has, has-some, two-has, has-two, is-same-row}
-use Rattle.twins.specs.Twins.{below, isStored, hidden, rank, twinOf, twinBounds, firstRow, secondRow}
+use Rattle.twins.specs.Twins.{below, isStored, hidden, rank, twinOf, twinBounds}
+use Rattle.twins.proofs.Rows.{firstRow, secondRow}
 use Rattle.search.proofs.Held.{element}
 use Rattle.twins.proofs.Lists.{filter-append, filter-length, behind-at, map-at, map-cong, pairwise-at, at-pairwise, pairwise-maps, maps-pairwise}
 

@@ -2,11 +2,11 @@
 use mathlib.Core.Bool.{Bool, not, cond}
 use mathlib.Core.List.{List, [], _∷_, _++_, map}
 use Prim.Native.Nat.{ℕ, zero, suc, _+_}
-use lib.ListN.{length, getD, take}
+use lib.ListN.{length, getD}
 use lib.IntN.{pos}
 use lib.Dec.{eqb}
 use Rattle.model.specs.Lists.{anyOf, filter}
-use Rattle.model.specs.Tables.{Bounds, Row, Against, column, number, Comparison, Condition, value}
+use Rattle.model.specs.Tables.{Bounds, Against, column, number, Comparison, Condition, value}
 
 -- the numbers below n, in order
 abbrev pub below : ℕ → List ℕ
@@ -32,12 +32,6 @@ module _ (n : ℕ) (stored : List ℕ) where
   -- the bounds of the two rows as one
   unfoldable pub twinBounds : List Bounds → List Bounds
   twinBounds bs = bs ++ map (λ c. getD bs c (record { lo = pos 0; hi = pos 0 })) hidden
-
-  unfoldable pub firstRow : Row → Row
-  firstRow t = take n t
-
-  unfoldable pub secondRow : Row → Row
-  secondRow t = map (λ c. value t (twinOf c)) (below n)
 
 -- a condition with its columns named anew
 abbrev pub renamedSide : (ℕ → ℕ) → Against → Against

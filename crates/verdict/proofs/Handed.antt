@@ -16,7 +16,8 @@ use Rattle.model.proofs.Theorems.{evidence-1, evidence-2, evidence-3, evidence-
 use Rattle.zone.specs.Zone.{Zone}
 use Rattle.solver.specs.Lists.{isSome}
 use Rattle.search.specs.Search.{orElse}
-use Rattle.verdict.specs.Found.{leastFound, found1, found2, found3, found4, foundKind, finding, firstBy, secondBy, firstHanded, secondHanded}
+use Rattle.verdict.specs.Found.{found1, found2, found3, found4, foundKind, finding}
+use Rattle.verdict.proofs.Rows.{leastFound, firstBy, secondBy, firstHanded, secondHanded}
 use Rattle.verdict.proofs.Decided.{kind-2-found, kind-found}
 use Rattle.verdict.proofs.Shown.{kind-1-row, kind-2-row, both-within, kind-3-row, kind-4-row}
 

@@ -31,7 +31,8 @@ use Rattle.twins.specs.Marks.{marked}
 use Rattle.twins.proofs.Marking.{marked-at}
 use Rattle.twins.proofs.Twinned.{record-columns}
 use Rattle.verdict.specs.declared.Pair.{Pair}
-use Rattle.verdict.specs.Found.{bothBounds, leastFound, found1, found2, found3, found4, foundKind, finding, unfixedIn}
+use Rattle.verdict.specs.Found.{bothBounds, found1, found2, found3, found4, foundKind, finding, unfixedIn}
+use Rattle.verdict.proofs.Rows.{leastFound}
 use Rattle.verdict.specs.Databases.{leastIn, pairRecord, shownColumns}
 use Rattle.verdict.specs.Listing.{listedBy}
 use Rattle.verdict.specs.Uses.{Given, HasLeast, PairsBy, bothRows}

@@ -1,3 +1,4 @@
+pub mod Rows
 pub mod Reduced
 pub mod Limits
 pub mod Decided

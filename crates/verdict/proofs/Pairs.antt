@@ -30,7 +30,8 @@ use Rattle.twins.proofs.Twinned.{record-columns, first-is, second-is}
 use Rattle.twins.proofs.Filled.{filled-length}
 use Rattle.verdict.specs.declared.Pair.{Pair}
 use Rattle.verdict.specs.Databases.{databaseOf, TidyDatabase, rowRecord, reducedRecord, firstIn, secondIn, onePair, twoPair, pairRecord, shownColumns}
-use Rattle.verdict.specs.Found.{leastFound, oneRow, otherRow, foundKind, finding, firstBy, secondBy, firstHanded, secondHanded}
+use Rattle.verdict.specs.Found.{foundKind, finding}
+use Rattle.verdict.proofs.Rows.{leastFound, oneRow, otherRow, firstBy, secondBy, firstHanded, secondHanded}
 use Rattle.verdict.proofs.Limits.{taken}
 use Rattle.verdict.proofs.Databases.{row-is, row-tidy, reduced-is, reduced-tidy, none-is, none-tidy}
 use Rattle.verdict.proofs.Pairing.{pair-two, shown-two}

@@ -16,7 +16,8 @@ use Rattle.model.proofs.Lists.{T-is, stable, all-has}
 use Rattle.model.proofs.Rows.{has-some}
 use Rattle.model.proofs.Scope.{JobFormed, job-formed}
 use Rattle.solver.proofs.Formed.{scope-declared}
-use Rattle.verdict.specs.Found.{twin, bothBounds, oneRow, otherRow, keepsOne, keepsOther, wantsOne, wantsOther}
+use Rattle.verdict.specs.Found.{twin, bothBounds, keepsOne, keepsOther, wantsOne, wantsOther}
+use Rattle.verdict.proofs.Rows.{oneRow, otherRow}
 use Rattle.twins.proofs.Lists.{any-cong, maps-differ, some-cong, two-cong}
 use Rattle.twins.proofs.Twins.{first-value, second-value, twins-same, first-within, second-within, twins-sought}
 use Rattle.twins.proofs.Renamed.{first-holds, second-holds}

@@ -1,24 +1,17 @@
--- The kind, the columns that aren't fixed and the two databases of a job, by searches over its rows and over two rows as one.
+-- The kind of a job and the columns that aren't fixed, by searches over its rows and over two rows as one.
 use mathlib.Core.Bool.{Bool, false, cond, _&&_}
-use mathlib.Core.List.{List, []}
-use mathlib.Core.Option.{Option, none, some}
+use mathlib.Core.List.{List}
+use mathlib.Core.Option.{Option, none}
 use Prim.Native.Nat.{ℕ}
 use lib.ListN.{length}
-use lib.Dec.{eqb, leb}
-use Rattle.model.specs.Tables.{Bounds, Row, Condition, Job, Database}
+use Rattle.model.specs.Tables.{Bounds, Condition, Job}
 use Rattle.model.specs.Verdict.{columns, tablesDiffer, firstKind}
-use Rattle.model.specs.Pair.{rowDatabase, reducedDatabase, emptyDatabase}
-use Rattle.zone.specs.Zone.{Zone, leastOf}
-use Rattle.solver.specs.Solver.{boxOf, rowOf, andThen, imposedAll}
+use Rattle.zone.specs.Zone.{Zone}
+use Rattle.solver.specs.Solver.{boxOf, andThen, imposedAll}
 use Rattle.solver.specs.Lists.{isSome}
 use Rattle.search.specs.Search.{choicesOf, orElse, firstOf, met, outside}
 use Rattle.search.specs.Pairs.{pairsOf, someApart, ifDiffer}
-use Rattle.twins.specs.Twins.{twinOf, twinBounds, firstRow, secondRow, renamed}
-
--- the least row of a zone that was found
-abbrev pub leastFound : Option Zone → Row
-leastFound none = []
-leastFound (some y) = rowOf (leastOf y)
+use Rattle.twins.specs.Twins.{twinOf, twinBounds, renamed}
 
 module _ (j : Job) where
   -- ---- Two rows that agree in the stored columns, as one
@@ -29,12 +22,6 @@ module _ (j : Job) where
 
   abbrev pub bothBounds : List Bounds
   bothBounds = twinBounds (length (columns j)) (j .extract .outputs) (columns j)
-
-  abbrev pub oneRow : Row → Row
-  oneRow = firstRow (length (columns j)) (j .extract .outputs)
-
-  abbrev pub otherRow : Row → Row
-  otherRow = secondRow (length (columns j)) (j .extract .outputs)
 
   -- ---- The conditions, of the first row and of the second
 
@@ -101,17 +88,3 @@ module _ (j : Job) where
 
   unfoldable pub twoFound : Option Zone
   twoFound = orElse found3 found4
-
-  -- ---- The two databases, of a kind and the row that shows it
-
-  unfoldable pub firstBy : ℕ → Row → Database
-  firstBy k r = cond (eqb k 0) emptyDatabase (cond (leb k 2) (rowDatabase j r) (rowDatabase j (oneRow r)))
-
-  unfoldable pub secondBy : ℕ → Row → Database
-  secondBy k r = cond (eqb k 1) (reducedDatabase j r) (cond (leb k 2) emptyDatabase (rowDatabase j (otherRow r)))
-
-  unfoldable pub firstHanded : Database
-  firstHanded = firstBy foundKind (leastFound finding)
-
-  unfoldable pub secondHanded : Database
-  secondHanded = secondBy foundKind (leastFound finding)
