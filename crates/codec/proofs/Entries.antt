@@ -1,4 +1,5 @@
--- What a command's entry does to the record that is being read into: the tests and the effect are those of the definition. Assumes nothing.
+-- What a command adds to the record that is being read into: the tests and the effect are those of the definition, and there is room for it.
+-- Assumes nothing.
 use mathlib.Core.Path.{_≡_, refl, sym, ap, _∙_}
 use mathlib.Core.Logic.{⊎-elim}
 use mathlib.Core.Bool.{Bool, true, false, not}
@@ -25,10 +26,11 @@ use Rattle.layout.specs.Commands.{addTable, addColumn, mark, useTable, addOutpu
 use Rattle.layout.specs.Reading.{current, lastOf, aboveLast, inLast, withCondition, withCurrent}
 use Rattle.layout.proofs.Growing.{either, among}
 use Rattle.codec.specs.declared.Cursor.{Cursor}
-use Rattle.codec.specs.declared.Entered.{Entered}
+use Rattle.codec.specs.declared.Addition.the-variants.{Table as TableAdded, Column as ColumnAdded, Nothing, Used, Output, Clause as ClauseAdded, Compared}
+use Rattle.codec.specs.declared.Judged.the-variants.{Added, Fault}
 use Rattle.codec.specs.Answers.{stateOf}
-use Rattle.codec.specs.Uses.{currentIn, lastClause, scopedIn, aboveIn, placed, tableMore, columnMore, usedMore, outputMore, clauseMore, comparisonMore, Open, boundsFit, addedTo, faultOf, enteredOf, Held}
-use Rattle.codec.proofs.Laid.{table-laid, column-laid, used-laid, output-laid, clause-laid, last-laid, comparison-laid, placed-laid}
+use Rattle.codec.specs.Uses.{lastClause, scopedIn, aboveIn, placed, whole, tableMore, columnMore, usedMore, outputMore, clauseMore, comparisonMore, Open, boundsFit, addedTo, Judges, Held}
+use Rattle.codec.proofs.Laid.{table-laid, column-laid, used-laid, output-laid, clause-laid, last-laid, comparison-laid, placed-laid, placed-again}
 use Rattle.layout.proofs.Rooms.{used-fit, used-room, outputs-fit, outputs-room}
 use Rattle.codec.proofs.Looks.{above-is, scoped-is, outputs-are}
 use Rattle.codec.proofs.Keeping.{tables-held, width-held, current-held, size-held, size-small}
@@ -48,12 +50,19 @@ op-back (suc (suc (suc zero))) h = refl
 op-back (suc (suc (suc (suc zero)))) h = refl
 op-back (suc (suc (suc (suc (suc o))))) h = absurd (omega arith)
 
-module _ {cur : Cursor} {job : Job} (h : Held cur job) where
+module _ {cur : Cursor} {job : Job} {e : Expression} (h : Held cur job e) where
+  -- the job that has been read so far, and its current expression
+  abbrev so-far : model.Job
+  so-far = meaningOf (whole cur job e)
+
   abbrev ts : List Table
-  ts = meaningOf job .tables
+  ts = so-far .tables
 
   abbrev m : model.Expression
-  m = current (stateOf cur job)
+  m = current (stateOf cur (whole cur job e))
+
+  laid : e ≡ expressionRecord m
+  laid = current-held h
 
   -- ---- declarations
   pub some-tables : anyOf (eqb (cur .last)) (0x10 ∷ 0x11 ∷ []) ≡ true → 0 < job .tables
@@ -67,144 +76,133 @@ module _ {cur : Cursor} {job : Job} (h : Held cur job) where
       filled : cur .last ≡ 0x11 → 0 < length ts
       filled e = some-long ts ((h .sound .filled (omega arith)) .0)
 
-  pub add-table : (y : Job) (r : Entered) → y ≡ tableMore job → r ≡ addedTo y → r ≡ enteredOf (stateOf cur job) addTable
-  add-table y r p q = q ∙ ap addedTo (p ∙ ap tableMore (h .laid) ∙ table-laid (meaningOf job))
-
-  pub add-mark : (b : ℕ) (r : Entered) → r ≡ addedTo job → r ≡ enteredOf (stateOf cur job) (mark b)
-  add-mark b r q = q ∙ ap addedTo (h .laid)
-
-  pub table-free : ltb (length ts) 4 ≡ true → job .tables < 4
-  table-free f = omega (arith, tables-held h, ltb-true (length ts) 4 f)
-
-  pub column-free : ltb (length (columnsOf ts)) 16 ≡ true → job .width < 16
-  column-free f = omega (arith, width-held h, ltb-true (length (columnsOf ts)) 16 f)
-
-  pub not-bounds : (lo hi : ℤ) (r : Entered) → r ≡ faultOf 7 → boundsFit lo hi ≡ false → r ≡ enteredOf (stateOf cur job) (addColumn lo hi)
-  not-bounds lo hi r q f = rw f q
-
-  pub add-column : (lo hi : ℤ) (l u : ℤ) (y : Job) (r : Entered) → l ≡ lo → u ≡ hi
-      → y ≡ columnMore job (record { table = job .tables - 1; lo = l; hi = u }) → r ≡ addedTo y
-      → boundsFit lo hi ≡ true → 0 < job .tables → job .width < 16 → r ≡ enteredOf (stateOf cur job) (addColumn lo hi)
-  add-column lo hi l u y r el eu p q f some room =
-      let b : Bounds = record { lo = lo; hi = hi } in
-      let last : suc (job .tables - 1) ≡ length ts = omega (arith, tables-held h) in
-      let few : length (columnsOf ts) < 16 = omega (arith, width-held h) in
-      rw f
-      (q ∙ ap addedTo (rw (el, eu) at p ∙ ap (λ (x : Job). columnMore x (columnRecord (job .tables - 1) b)) (h .laid)
-      ∙ column-laid (meaningOf job) b (job .tables - 1) last few))
-
-  pub no-table : (t : ℕ) (r : Entered) → r ≡ faultOf 9 → job .tables ≤ t → r ≡ enteredOf (stateOf cur job) (useTable t)
-  no-table t r q k = rw (le-ltb t (length ts) (omega (arith, tables-held h))) q
-
-  -- ---- the current expression
-  placed-held : (x : Expression) (e : model.Expression) → x ≡ expressionRecord e
-      → placed (cur .«in_query») job x ≡ recordOf (withCurrent (cur .«in_query») (meaningOf job) e)
-  placed-held x e is =
-      ap (λ (r : Job). placed (cur .«in_query») r x) (h .laid) ∙ ap (placed (cur .«in_query») (recordOf (meaningOf job))) is
-      ∙ placed-laid (cur .«in_query») (meaningOf job) e
+  pub tables-few : job .tables ≤ 4
+  tables-few = omega (arith, tables-held h, h .sound .few-tables)
 
   pub width-small : job .width ≤ 16
   width-small = omega (arith, width-held h, h .sound .few-columns)
 
-  module _ (e : Expression) (is : e ≡ currentIn (cur .«in_query») job) where
-    laid : e ≡ expressionRecord m
-    laid = is ∙ current-held h
+  pub add-table : ltb (length ts) 4 ≡ true → Judges cur job e addTable (Added TableAdded)
+  add-table f = record {
+    told = ap addedTo (ap tableMore (h .laid) ∙ table-laid so-far);
+    fits = omega (arith, tables-held h, ltb-true (length ts) 4 f);
+  }
 
-    tables-are : e .tables ≡ length (m .used)
-    unfolding expressionRecord
-    tables-are = ap (λ (x : Expression). x .tables) laid
+  pub add-mark : (b : ℕ) → Judges cur job e (mark b) (Added Nothing)
+  add-mark b = record { told = ap addedTo (h .laid); fits = tt }
 
-    width-is : e .width ≡ length (m .outputs)
-    unfolding expressionRecord
-    width-is = ap (λ (x : Expression). x .width) laid
+  pub not-bounds : (lo hi : ℤ) → boundsFit lo hi ≡ false → Judges cur job e (addColumn lo hi) (Fault 7)
+  not-bounds lo hi f = record { told = rw f; fits = tt }
 
-    pub tables-small : e .tables ≤ 4
-    tables-small = omega (arith, tables-are, used-fit (h .sound .begun), h .sound .few-tables)
+  pub add-column : (lo hi : ℤ) (l u : ℤ) → l ≡ lo → u ≡ hi → boundsFit lo hi ≡ true → 0 < job .tables → ltb (length (columnsOf ts)) 16 ≡ true
+      → Judges cur job e (addColumn lo hi) (Added (ColumnAdded (record { table = job .tables - 1; lo = l; hi = u })))
+  add-column lo hi l u el eu f some room =
+      let b : Bounds = record { lo = lo; hi = hi } in
+      let last : suc (job .tables - 1) ≡ length ts = omega (arith, tables-held h) in
+      let few : length (columnsOf ts) < 16 = ltb-true (length (columnsOf ts)) 16 room in
+      record {
+        told = rw (f, el, eu)
+            (ap addedTo (ap (λ (x : Job). columnMore x (columnRecord (job .tables - 1) b)) (h .laid) ∙ column-laid so-far b (job .tables - 1) last few));
+        fits = omega (arith, width-held h);
+      }
 
-    pub outputs-small : e .width ≤ 16
-    outputs-small = omega (arith, width-is, outputs-fit (h .sound .begun), h .sound .few-columns)
+  pub no-table : (t : ℕ) → job .tables ≤ t → Judges cur job e (useTable t) (Fault 9)
+  no-table t k = record { told = rw (le-ltb t (length ts) (omega (arith, tables-held h))); fits = tt }
 
-    above-held : (t : ℕ) → aboveIn e t ≡ aboveLast (m .used) t
-    above-held t = ap (λ (x : Expression). aboveIn x t) laid ∙ above-is m t
+  -- ---- the current expression
+  placed-held : (x : Expression) (y : model.Expression) → x ≡ expressionRecord y
+      → whole cur job x ≡ recordOf (withCurrent (cur .«in_query») so-far y)
+  placed-held x y q =
+      sym (placed-again (cur .«in_query») job e x) ∙ ap (λ (r : Job). placed (cur .«in_query») r x) (h .laid)
+      ∙ ap (placed (cur .«in_query») (recordOf so-far)) q ∙ placed-laid (cur .«in_query») so-far y
 
-    scoped-held : (c : ℕ) → scopedIn job e c ≡ inScope ts m c
-    scoped-held c =
-        ap (λ (r : Job). scopedIn r e c) (h .laid) ∙ ap (λ (x : Expression). scopedIn (recordOf (meaningOf job)) x c) laid
-        ∙ scoped-is (meaningOf job) m c
+  tables-are : e .tables ≡ length (m .used)
+  unfolding expressionRecord
+  tables-are = ap (λ (x : Expression). x .tables) laid
 
-    outputs-held : (c : ℕ) → anyOf (eqb c) (take (e .width) (e .outputs)) ≡ anyOf (eqb c) (m .outputs)
-    outputs-held c = ap (λ (x : Expression). anyOf (eqb c) (take (x .width) (x .outputs))) laid ∙ ap (anyOf (eqb c)) (outputs-are m)
+  width-is : e .width ≡ length (m .outputs)
+  unfolding expressionRecord
+  width-is = ap (λ (x : Expression). x .width) laid
 
-    -- a column in scope is declared
-    pub scoped-below : (c : ℕ) → scopedIn job e c ≡ true → c < job .width
-    scoped-below c f = ltb-true c (job .width) (T-is (ltb c (job .width)) ((and-yes (ltb c (job .width)) _ (is-T f)) .0))
+  pub tables-small : e .tables ≤ 4
+  tables-small = omega (arith, tables-are, used-fit (h .sound .begun), h .sound .few-tables)
 
-    -- ---- used tables
-    pub used-free : (t : ℕ) → t < job .tables → aboveIn e t ≡ true → e .tables < 4
-    used-free t k a =
-        omega (arith, tables-are, h .sound .few-tables, used-room (h .sound .begun) t (omega (arith, tables-held h)) (is-T (sym (above-held t) ∙ a)))
+  pub outputs-small : e .width ≤ 16
+  outputs-small = omega (arith, width-is, outputs-fit (h .sound .begun), h .sound .few-columns)
 
-    pub not-above : (t : ℕ) (r : Entered) → r ≡ faultOf 10 → t < job .tables → aboveIn e t ≡ false → r ≡ enteredOf (stateOf cur job) (useTable t)
-    not-above t r q k a = rw (lt-ltb t (length ts) (omega (arith, tables-held h)), sym (above-held t) ∙ a) q
+  above-held : (t : ℕ) → aboveIn e t ≡ aboveLast (m .used) t
+  above-held t = ap (λ (x : Expression). aboveIn x t) laid ∙ above-is m t
 
-    pub use-table : (t : ℕ) (x : Expression) (y : Job) (r : Entered) → x ≡ usedMore e t → y ≡ placed (cur .«in_query») job x → r ≡ addedTo y
-        → t < job .tables → aboveIn e t ≡ true → r ≡ enteredOf (stateOf cur job) (useTable t)
-    use-table t x y r o p q k a =
-        let room : length (m .used) < 4 = omega (arith, tables-are, used-free t k a) in
-        rw (lt-ltb t (length ts) (omega (arith, tables-held h)), sym (above-held t) ∙ a)
-        (q ∙ ap addedTo (p ∙ placed-held x _ (o ∙ ap (λ (z : Expression). usedMore z t) laid ∙ used-laid m t room)))
+  scoped-held : (c : ℕ) → scopedIn job e c ≡ inScope ts m c
+  scoped-held c =
+      ap (λ (r : Job). scopedIn r e c) (h .laid) ∙ ap (λ (x : Expression). scopedIn (recordOf so-far) x c) laid ∙ scoped-is so-far m c
 
-    -- ---- outputs
-    pub outputs-free : (c : ℕ) → scopedIn job e c ≡ true → anyOf (eqb c) (take (e .width) (e .outputs)) ≡ false → e .width < 16
-    outputs-free c f a =
-        let below : c < length (columnsOf ts) = omega (arith, width-held h, scoped-below c f) in
-        omega (arith, width-is, h .sound .few-columns, outputs-room (h .sound .begun) c below (sym (outputs-held c) ∙ a))
+  outputs-held : (c : ℕ) → anyOf (eqb c) (take (e .width) (e .outputs)) ≡ anyOf (eqb c) (m .outputs)
+  outputs-held c = ap (λ (x : Expression). anyOf (eqb c) (take (x .width) (x .outputs))) laid ∙ ap (anyOf (eqb c)) (outputs-are m)
 
-    pub out-of-scope : (c : ℕ) (r : Entered) → r ≡ faultOf 9 → scopedIn job e c ≡ false → r ≡ enteredOf (stateOf cur job) (addOutput c)
-    out-of-scope c r q f = rw (sym (scoped-held c) ∙ f) q
+  -- a column in scope is declared
+  pub scoped-below : (c : ℕ) → scopedIn job e c ≡ true → c < job .width
+  scoped-below c f = ltb-true c (job .width) (T-is (ltb c (job .width)) ((and-yes (ltb c (job .width)) _ (is-T f)) .0))
 
-    pub repeated : (c : ℕ) (r : Entered) → r ≡ faultOf 10 → scopedIn job e c ≡ true → anyOf (eqb c) (take (e .width) (e .outputs)) ≡ true
-        → r ≡ enteredOf (stateOf cur job) (addOutput c)
-    repeated c r q f a = rw (sym (scoped-held c) ∙ f, sym (outputs-held c) ∙ a) q
+  -- ---- used tables
+  pub not-above : (t : ℕ) → t < job .tables → aboveIn e t ≡ false → Judges cur job e (useTable t) (Fault 10)
+  not-above t k a = record { told = rw (lt-ltb t (length ts) (omega (arith, tables-held h)), sym (above-held t) ∙ a); fits = tt }
 
-    pub add-output : (c : ℕ) (x : Expression) (y : Job) (r : Entered) → x ≡ outputMore e c → y ≡ placed (cur .«in_query») job x → r ≡ addedTo y
-        → scopedIn job e c ≡ true → anyOf (eqb c) (take (e .width) (e .outputs)) ≡ false → r ≡ enteredOf (stateOf cur job) (addOutput c)
-    add-output c x y r o p q f a =
-        let room : length (m .outputs) < 16 = omega (arith, width-is, outputs-free c f a) in
-        rw (sym (scoped-held c) ∙ f, sym (outputs-held c) ∙ a)
-        (q ∙ ap addedTo (p ∙ placed-held x _ (o ∙ ap (λ (z : Expression). outputMore z c) laid ∙ output-laid m c room)))
+  pub use-table : (t : ℕ) → t < job .tables → aboveIn e t ≡ true → Judges cur job e (useTable t) (Added (Used t))
+  use-table t k a =
+      let below : t < length ts = omega (arith, tables-held h) in
+      let above : aboveLast (m .used) t ≡ true = sym (above-held t) ∙ a in
+      let room : length (m .used) < 4 = omega (arith, h .sound .few-tables, used-room (h .sound .begun) t below (is-T above)) in
+      record {
+        told = rw (lt-ltb t (length ts) below, above)
+            (ap addedTo (placed-held _ _ (ap (λ (z : Expression). usedMore z t) laid ∙ used-laid m t room)));
+        fits = omega (arith, tables-are);
+      }
 
-    -- ---- clauses
-    pub clause-free : ltb (length (m .condition)) 4 ≡ true → e .size < 4
-    clause-free f = omega (arith, size-held h e is, ltb-true (length (m .condition)) 4 f)
+  -- ---- outputs
+  pub out-of-scope : (c : ℕ) → scopedIn job e c ≡ false → Judges cur job e (addOutput c) (Fault 9)
+  out-of-scope c f = record { told = rw (sym (scoped-held c) ∙ f); fits = tt }
 
-    pub add-clause : (x : Expression) (y : Job) (r : Entered) → x ≡ clauseMore e → y ≡ placed (cur .«in_query») job x → r ≡ addedTo y
-        → ltb (length (m .condition)) 4 ≡ true → r ≡ enteredOf (stateOf cur job) addClause
-    add-clause x y r o p q f =
-        q ∙ ap addedTo (p ∙ placed-held x _ (o ∙ ap clauseMore laid ∙ clause-laid m (ltb-true (length (m .condition)) 4 f)))
+  pub repeated : (c : ℕ) → scopedIn job e c ≡ true → anyOf (eqb c) (take (e .width) (e .outputs)) ≡ true → Judges cur job e (addOutput c) (Fault 10)
+  repeated c f a = record { told = rw (sym (scoped-held c) ∙ f, sym (outputs-held c) ∙ a); fits = tt }
 
-    -- ---- comparisons
-    pub left-out : (o l : ℕ) (v : ℤ) (r : Entered) → r ≡ faultOf 9 → inRange v ≡ true → o ≤ 4 → scopedIn job e l ≡ false
-        → r ≡ enteredOf (stateOf cur job) (addComparison o l (number v))
-    left-out o l v r q i k f = rw (i, le-leb o 4 k, sym (scoped-held l) ∙ f) q
+  pub add-output : (c : ℕ) → scopedIn job e c ≡ true → anyOf (eqb c) (take (e .width) (e .outputs)) ≡ false
+      → Judges cur job e (addOutput c) (Added (Output c))
+  add-output c f a =
+      let below : c < length (columnsOf ts) = omega (arith, width-held h, scoped-below c f) in
+      let fresh : anyOf (eqb c) (m .outputs) ≡ false = sym (outputs-held c) ∙ a in
+      let room : length (m .outputs) < 16 = omega (arith, h .sound .few-columns, outputs-room (h .sound .begun) c below fresh) in
+      record {
+        told = rw (sym (scoped-held c) ∙ f, fresh)
+            (ap addedTo (placed-held _ _ (ap (λ (z : Expression). outputMore z c) laid ∙ output-laid m c room)));
+        fits = omega (arith, width-is);
+      }
 
-    pub left-out-too : (o l c : ℕ) (r : Entered) → r ≡ faultOf 9 → o ≤ 4 → scopedIn job e l ≡ false
-        → r ≡ enteredOf (stateOf cur job) (addComparison o l (column c))
-    left-out-too o l c r q k f = rw (le-leb o 4 k, sym (scoped-held l) ∙ f) q
+  -- ---- clauses
+  pub add-clause : ltb (length (m .condition)) 4 ≡ true → Judges cur job e addClause (Added ClauseAdded)
+  add-clause f = record {
+    told = ap addedTo (placed-held _ _ (ap clauseMore laid ∙ clause-laid m (ltb-true (length (m .condition)) 4 f)));
+    fits = omega (arith, size-held h, ltb-true (length (m .condition)) 4 f);
+  }
 
-    pub right-out : (o l c : ℕ) (r : Entered) → r ≡ faultOf 9 → o ≤ 4 → scopedIn job e l ≡ true → scopedIn job e c ≡ false
-        → r ≡ enteredOf (stateOf cur job) (addComparison o l (column c))
-    right-out o l c r q k f g = rw (le-leb o 4 k, sym (scoped-held l) ∙ f, sym (scoped-held c) ∙ g) q
+  -- ---- comparisons
+  pub too-far : (o l : ℕ) (v : ℤ) → inRange v ≡ false → Judges cur job e (addComparison o l (number v)) (Fault 7)
+  too-far o l v i = record { told = rw i; fits = tt }
 
-  pub too-far : (o l : ℕ) (v : ℤ) (r : Entered) → r ≡ faultOf 7 → inRange v ≡ false → r ≡ enteredOf (stateOf cur job) (addComparison o l (number v))
-  too-far o l v r q i = rw i q
+  pub no-op : (o l : ℕ) (v : ℤ) → inRange v ≡ true → 4 < o → Judges cur job e (addComparison o l (number v)) (Fault 8)
+  no-op o l v i k = record { told = rw (i, lt-leb o 4 k); fits = tt }
 
-  pub no-op : (o l : ℕ) (v : ℤ) (r : Entered) → r ≡ faultOf 8 → inRange v ≡ true → 4 < o
-      → r ≡ enteredOf (stateOf cur job) (addComparison o l (number v))
-  no-op o l v r q i k = rw (i, lt-leb o 4 k) q
+  pub no-op-either : (o l c : ℕ) → 4 < o → Judges cur job e (addComparison o l (column c)) (Fault 8)
+  no-op-either o l c k = record { told = rw (lt-leb o 4 k); fits = tt }
 
-  pub no-op-either : (o l c : ℕ) (r : Entered) → r ≡ faultOf 8 → 4 < o → r ≡ enteredOf (stateOf cur job) (addComparison o l (column c))
-  no-op-either o l c r q k = rw (lt-leb o 4 k) q
+  pub left-out : (o l : ℕ) (v : ℤ) → inRange v ≡ true → o ≤ 4 → scopedIn job e l ≡ false → Judges cur job e (addComparison o l (number v)) (Fault 9)
+  left-out o l v i k f = record { told = rw (i, le-leb o 4 k, sym (scoped-held l) ∙ f); fits = tt }
+
+  pub left-out-too : (o l c : ℕ) → o ≤ 4 → scopedIn job e l ≡ false → Judges cur job e (addComparison o l (column c)) (Fault 9)
+  left-out-too o l c k f = record { told = rw (le-leb o 4 k, sym (scoped-held l) ∙ f); fits = tt }
+
+  pub right-out : (o l c : ℕ) → o ≤ 4 → scopedIn job e l ≡ true → scopedIn job e c ≡ false → Judges cur job e (addComparison o l (column c)) (Fault 9)
+  right-out o l c k f g = record { told = rw (le-leb o 4 k, sym (scoped-held l) ∙ f, sym (scoped-held c) ∙ g); fits = tt }
 
   -- in the last clause, which is there and has room
   module _ (order : anyOf (eqb (cur .last)) (0x40 ∷ 0x41 ∷ 0x42 ∷ []) ≡ true) (room : ltb (length (lastOf (m .condition))) 6 ≡ true) where
@@ -216,33 +214,30 @@ module _ {cur : Cursor} {job : Job} (h : Held cur job) where
     last-one : suc (length (m .condition) - 1) ≡ length (m .condition)
     last-one = omega (arith, some-clauses)
 
-    pub open-held : Open (currentIn (cur .«in_query») job)
+    open-held : Open e
     open-held = record {
-      some = omega (arith, size-held h _ refl, some-clauses);
-      few = size-small h _ refl;
-      room = rw (ap (λ (x : Expression). lastClause x .size) (current-held h) ∙ ap (λ (c : Clause). c .size) (last-laid m _ last-one)) (ltb-true _ 6 room);
+      some = omega (arith, size-held h, some-clauses);
+      few = size-small h;
+      room = rw (ap (λ (x : Expression). lastClause x .size) laid ∙ ap (λ (c : Clause). c .size) (last-laid m _ last-one)) (ltb-true _ 6 room);
     }
 
-    compared-held : (k : model.Comparison) (r : Entered)
-        → r ≡ addedTo (placed (cur .«in_query») job (comparisonMore (currentIn (cur .«in_query») job) (comparisonRecord k)))
-        → r ≡ addedTo (recordOf (withCurrent (cur .«in_query») (meaningOf job) (withCondition m (inLast (m .condition) k))))
-    compared-held k r q =
-        q ∙ ap addedTo (placed-held _ _ (ap (λ (x : Expression). comparisonMore x (comparisonRecord k)) (current-held h)
-        ∙ comparison-laid m _ last-one k (ltb-true _ 6 room)))
+    compared-held : (k : model.Comparison) → whole cur job (comparisonMore e (comparisonRecord k))
+        ≡ recordOf (withCurrent (cur .«in_query») so-far (withCondition m (inLast (m .condition) k)))
+    compared-held k =
+        placed-held _ _ (ap (λ (x : Expression). comparisonMore x (comparisonRecord k)) laid ∙ comparison-laid m _ last-one k (ltb-true _ 6 room))
 
-    module _ (e : Expression) (is : e ≡ currentIn (cur .«in_query») job) where
-      pub add-number : (o l : ℕ) (v w : ℤ) (r : Entered) → w ≡ v
-          → r ≡ addedTo (placed (cur .«in_query») job (comparisonMore (currentIn (cur .«in_query») job)
-          (record { op = o; left = l; right = 0; number = w })))
-          → inRange v ≡ true → o ≤ 4 → scopedIn job e l ≡ true → r ≡ enteredOf (stateOf cur job) (addComparison o l (number v))
-      add-number o l v w r ew q i k f =
-          rw (i, le-leb o 4 k, sym (scoped-held e is l) ∙ f)
-          (compared-held (record { op = opAt o; left = l; right = number v }) r (rw (op-back o k, ← ew) q))
+    pub add-number : (o l : ℕ) (v w : ℤ) → w ≡ v → inRange v ≡ true → o ≤ 4 → scopedIn job e l ≡ true
+        → Judges cur job e (addComparison o l (number v)) (Added (Compared (record { op = o; left = l; right = 0; number = w })))
+    add-number o l v w ew i k f = record {
+      told = rw (ew, i, le-leb o 4 k, sym (scoped-held l) ∙ f)
+          (ap addedTo (rw (op-back o k) at (compared-held (record { op = opAt o; left = l; right = number v }))));
+      fits = open-held;
+    }
 
-      pub add-columns : (o l c : ℕ) (r : Entered)
-          → r ≡ addedTo (placed (cur .«in_query») job (comparisonMore (currentIn (cur .«in_query») job)
-          (record { op = o; left = l; right = c + 1; number = pos 0 })))
-          → o ≤ 4 → scopedIn job e l ≡ true → scopedIn job e c ≡ true → r ≡ enteredOf (stateOf cur job) (addComparison o l (column c))
-      add-columns o l c r q k f g =
-          rw (le-leb o 4 k, sym (scoped-held e is l) ∙ f, sym (scoped-held e is c) ∙ g)
-          (compared-held (record { op = opAt o; left = l; right = column c }) r (rw (op-back o k, ← add-one c) q))
+    pub add-columns : (o l c : ℕ) → o ≤ 4 → scopedIn job e l ≡ true → scopedIn job e c ≡ true
+        → Judges cur job e (addComparison o l (column c)) (Added (Compared (record { op = o; left = l; right = c + 1; number = pos 0 })))
+    add-columns o l c k f g = record {
+      told = rw (le-leb o 4 k, sym (scoped-held l) ∙ f, sym (scoped-held c) ∙ g)
+          (ap addedTo (rw (op-back o k, ← add-one c) at (compared-held (record { op = opAt o; left = l; right = column c }))));
+      fits = open-held;
+    }

@@ -10,6 +10,8 @@ use lib.Dec.{T}
 use Rattle.model.specs.Lists.{isEmpty}
 use Rattle.model.specs.Tables as model
 use Rattle.model.specs.Tables.{Bounds, Table, columnsOf}
+use Rattle.job.specs.declared.Expression.{Expression}
+use Rattle.job.specs.declared.Job.{Job}
 use Rattle.job.specs.Record.{padded, noColumn, noComparison, noClause}
 use Rattle.job.specs.Meaning.{columnRecord, columnRecords, comparisonRecord, clauseRecord, expressionRecord, recordOf}
 use Rattle.job.proofs.Meaning.{columns-length}
@@ -137,3 +139,16 @@ pub placed-laid : (q : Bool) (j : model.Job) (e : model.Expression) → placed q
 unfolding recordOf
 placed-laid true j e = refl
 placed-laid false j e = refl
+
+-- what is put in its place stands there, in place of what stood there before; and what stands there can be taken out
+pub current-placed : (q : Bool) (r : Job) (e : Expression) → currentIn q (placed q r e) ≡ e
+current-placed true r e = refl
+current-placed false r e = refl
+
+pub placed-again : (q : Bool) (r : Job) (e x : Expression) → placed q (placed q r e) x ≡ placed q r x
+placed-again true r e x = refl
+placed-again false r e x = refl
+
+pub placed-current : (q : Bool) (r : Job) → placed q r (currentIn q r) ≡ r
+placed-current true r = refl
+placed-current false r = refl

@@ -1,11 +1,11 @@
 -- Tests on the record of a job are the tests on the job. Assumes nothing.
 use mathlib.Core.Path.{_≡_, refl, sym, ap}
 use mathlib.Core.Bool.{Bool, true, false, _&&_, _||_}
-use mathlib.Core.List.{List, [], _∷_}
+use mathlib.Core.List.{List, [], _∷_, map}
 use Prim.Native.Nat.{ℕ, zero, suc, _-_}
 use native.Mathlib.Numerals.{sub-one}
 use native.Mathlib.Omega.{arith}
-use lib.ListN.{length, getD, take}
+use lib.ListN.{length, getD, set, take, List·getD-map}
 use lib.Dec.{eqb, ltb}
 use borrow.Author.Tests.{eq-eqb, ne-eqb, ltb-true}
 use Rattle.model.specs.Lists.{anyOf}
@@ -13,13 +13,15 @@ use Rattle.model.specs.Tables as model
 use Rattle.model.specs.Tables.{columnsOf, tableOf, uses}
 use Rattle.model.specs.WellFormed.{inScope}
 use Rattle.job.specs.declared.Clause.{Clause}
+use Rattle.job.specs.declared.Column.{Column}
+use Rattle.job.specs.declared.Job.{Job}
 use Rattle.job.specs.Record.{padded, noColumn}
 use Rattle.job.specs.Meaning.{columnRecords, expressionRecord, recordOf}
 use Rattle.job.proofs.Meaning.{take-padded}
 use Rattle.job.proofs.Padded.{getD-padded}
 use Rattle.job.proofs.Columns.{column-of}
 use Rattle.layout.specs.Reading.{lastOf, aboveLast}
-use Rattle.codec.specs.Uses.{lastSize, scopedIn, aboveIn}
+use Rattle.codec.specs.Uses.{tablesIn, lastSize, scopedIn, aboveIn}
 use Rattle.codec.proofs.Laid.{last-laid}
 
 last-above : (l : List ℕ) (i t : ℕ) → suc i ≡ length l → ltb (getD l i 0) t ≡ aboveLast l t
@@ -68,3 +70,15 @@ last-size-is e = go (e .condition) refl
     go (x ∷ k) q =
         let some : suc (length k) ≡ length (e .condition) = sym (ap length q) in
         rw (ne-eqb (length (e .condition)) 0 (λ z. omega arith)) (ap (λ (c : Clause). c .size) (last-laid e (length k) some))
+
+-- ---- the tables of the columns, beside the record
+pub table-at : (r : Job) (ts : List ℕ) (c : ℕ) → ts ≡ tablesIn r → getD ts c 0 ≡ getD (r .columns) c noColumn .table
+table-at r ts c e = rw e (List·getD-map (λ (k : Column). k .table) (r .columns) c noColumn)
+
+table-set : (l : List Column) (n : ℕ) (k : Column) → set (map (λ (c : Column). c .table) l) n (k .table) ≡ map (λ (c : Column). c .table) (set l n k)
+table-set [] n k = refl
+table-set (x ∷ l) zero k = refl
+table-set (x ∷ l) (suc n) k = rw (table-set l n k)
+
+pub table-more : (r : Job) (ts : List ℕ) (n : ℕ) (k : Column) → ts ≡ tablesIn r → set ts n (k .table) ≡ map (λ (c : Column). c .table) (set (r .columns) n k)
+table-more r ts n k e = rw e (table-set (r .columns) n k)

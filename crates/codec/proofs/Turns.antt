@@ -9,25 +9,28 @@ use native.Mathlib.Omega.{arith}
 use lib.ListN.{length}
 use lib.Dec.{eqb}
 use borrow.Author.Tests.{eq-eqb, ne-eqb}
+use Rattle.job.specs.declared.Expression.{Expression}
 use Rattle.job.specs.declared.Job.{Job}
-use Rattle.job.specs.Record.{noJob}
+use Rattle.job.specs.Record.{noExpression, noJob}
 use Rattle.job.specs.Meaning.{expressionOf, expressionRecord, meaningOf, recordOf}
 use Rattle.job.proofs.Meaning.{meaning-record}
 use Rattle.layout.specs.Reading.{State, atStart, Step, next, stop, stepOf, ended, onward, readFrom, starts, readOf}
 use Rattle.layout.proofs.Sound.{Sound}
 use Rattle.layout.proofs.Keeps.{start-sound, step-sound}
 use Rattle.codec.specs.declared.Cursor.{Cursor}
+use Rattle.codec.specs.declared.Addition.{Addition}
+use Rattle.codec.specs.declared.Took.{Took}
 use Rattle.codec.specs.declared.Took.the-variants.{Next, Refused}
-use Rattle.codec.specs.declared.Stepped.{Stepped}
 use Rattle.codec.specs.declared.Answer.the-variants.{Whole}
 use Rattle.codec.specs.declared.Decoded.{Decoded}
-use Rattle.codec.specs.Answers.{stateOf, steppedOf, decodedOf}
-use Rattle.codec.specs.Uses.{refusedAt, passedOn, endedAt, Held}
+use Rattle.codec.specs.Answers.{stateOf, went, halted, steppedOf, decodedOf}
+use Rattle.codec.specs.Uses.{currentIn, placed, whole, tablesIn, grown, refusedAt, passedOn, endedAt, Held, Takes}
+use Rattle.codec.proofs.Laid.{placed-current}
 
 -- after i commands: what is left gives what the whole gives
-pub record Midway (s : List ℕ) (i : ℕ) (cur : Cursor) (job : Job) : Type 0 where
-  pub held : Held cur job
-  pub left : readFrom (length s - i) s (cur .at) (stateOf cur job) ≡ readOf s
+pub record Midway (s : List ℕ) (i : ℕ) (cur : Cursor) (job : Job) (e : Expression) : Type 0 where
+  pub held : Held cur job e
+  pub left : readFrom (length s - i) s (cur .at) (stateOf cur (whole cur job e)) ≡ readOf s
 
 -- ---- the start
 abbrev pub startCursor : Cursor
@@ -41,7 +44,7 @@ start-laid : noJob ≡ recordOf (meaningOf noJob)
 unfolding meaningOf expressionOf recordOf expressionRecord
 start-laid = refl
 
-pub begun : (s : List ℕ) → starts s ≡ true → Midway s 0 startCursor noJob
+pub begun : (s : List ℕ) → starts s ≡ true → Midway s 0 startCursor noJob noExpression
 unfolding readOf
 begun s e =
     let all : length s - 0 ≡ length s = omega arith in
@@ -55,65 +58,86 @@ more : (n : ℕ) (s : List ℕ) (at : ℕ) (st : State) → 0 < n → readFrom n
 more zero s at st h = absurd (omega arith)
 more (suc n) s at st h = rw sub-one
 
-stopped-is : (x : Step) (r : Stepped) (n p : ℕ) → r ≡ steppedOf x → r .took ≡ Refused n p → x ≡ stop n p
-stopped-is (next at st) r n p e t =
-    let clash : Next (record { at = at; last = st .last; «in_query» = st .inQuery }) ≡ Refused n p = sym (ap (λ (y : Stepped). y .took) e) ∙ t in
-    let z : _≡_ {A = ℕ} 0 1 = cc in absurd (omega arith)
-stopped-is (stop m q) r n p e t =
-    let same : Refused m q ≡ Refused n p = sym (ap (λ (y : Stepped). y .took) e) ∙ t in
-    cc
+stopped-is : (x : Step) (n p : ℕ) → halted n p ≡ steppedOf x → x ≡ stop n p
+stopped-is (next at st) n p e = let z : _≡_ {A = ℕ} 0 1 = cc in absurd (omega arith)
+stopped-is (stop m q) n p e = cc
 
-module _ (s : List ℕ) (at : ℕ) (st : State) (r : Stepped) (cur : Cursor) (sound : Sound st) (is : r ≡ steppedOf (stepOf s at st))
-    (took : r .took ≡ Next cur) where
-  went : (x : Step) → stepOf s at st ≡ x → Held cur (r .job) × (x ≡ next (cur .at) (stateOf cur (r .job)))
-  went (next to su) q =
+module _ (s : List ℕ) (at : ℕ) (st : State) (cur : Cursor) (job : Job) (e : Expression) (sound : Sound st)
+    (is : went cur (whole cur job e) ≡ steppedOf (stepOf s at st)) where
+  moved : (x : Step) → stepOf s at st ≡ x → Held cur job e × (x ≡ next (cur .at) (stateOf cur (whole cur job e)))
+  moved (next to su) q =
       let kept : Sound su = step-sound s at to st su sound q in
       let back : meaningOf (recordOf (su .job)) ≡ su .job = meaning-record (su .job) (kept .few-tables) in
-      let whole : r ≡ steppedOf (next to su) = is ∙ ap steppedOf q in
-      let job-is : r .job ≡ recordOf (su .job) = ap (λ (y : Stepped). y .job) whole in
-      let same : Next (record { at = to; last = su .last; «in_query» = su .inQuery }) ≡ Next cur = sym (ap (λ (y : Stepped). y .took) whole) ∙ took in
+      let same : went cur (whole cur job e) ≡ went (record { at = to; last = su .last; «in_query» = su .inQuery }) (recordOf (su .job)) =
+      is ∙ ap steppedOf q in
       let cur-is : cur ≡ record { at = to; last = su .last; «in_query» = su .inQuery } = cc in
-      let state-is : stateOf cur (r .job) ≡ su = rw (cur-is, job-is, back) in
-      (record { laid = rw (job-is, back); sound = rw state-is kept }, rw (state-is, cur-is))
-  went (stop n p) q =
-      let whole : r ≡ steppedOf (stop n p) = is ∙ ap steppedOf q in
-      let clash : Refused n p ≡ Next cur = sym (ap (λ (y : Stepped). y .took) whole) ∙ took in
+      let job-is : whole cur job e ≡ recordOf (su .job) = cc in
+      let meant : meaningOf (whole cur job e) ≡ su .job = ap meaningOf job-is ∙ back in
+      let state-is : stateOf cur (whole cur job e) ≡ su = rw meant (ap (λ (c : Cursor). record { last = c .last; inQuery = c .«in_query»; job = su .job }) cur-is) in
+      (record { laid = job-is ∙ ap recordOf (sym meant); sound = rw state-is kept }, rw state-is (ap (λ (c : Cursor). next (c .at) su) (sym cur-is)))
+  moved (stop n p) q =
+      let clash : went cur (whole cur job e) ≡ halted n p = is ∙ ap steppedOf q in
       let z : _≡_ {A = ℕ} 0 1 = cc in absurd (omega arith)
 
 -- ---- a turn of the loop
-module _ (s : List ℕ) (i : ℕ) (cur : Cursor) (job : Job) (r : Stepped) (m : Midway s i cur job) (before : i < length s)
-    (is : r ≡ steppedOf (stepOf s (cur .at) (stateOf cur job))) where
-  turned : onward s (stepOf s (cur .at) (stateOf cur job)) (readFrom (length s - i - 1) s) ≡ readOf s
-  turned = sym (more (length s - i) s (cur .at) (stateOf cur job) (omega arith)) ∙ m .left
+module _ (s : List ℕ) (i : ℕ) (cur : Cursor) (job : Job) (e : Expression) (r : Took) (m : Midway s i cur job e) (before : i < length s)
+    (is : Takes cur job e (stepOf s (cur .at) (stateOf cur (whole cur job e))) r) where
+  turned : onward s (stepOf s (cur .at) (stateOf cur (whole cur job e))) (readFrom (length s - i - 1) s) ≡ readOf s
+  turned = sym (more (length s - i) s (cur .at) (stateOf cur (whole cur job e)) (omega arith)) ∙ m .left
 
-  pub broken-off : (n p : ℕ) (d : Decoded) → r .took ≡ Refused n p → d ≡ passedOn (r .took) → d ≡ decodedOf (readOf s)
-  broken-off n p d t q = q ∙ rw t (ap decodedOf (rw (stopped-is (stepOf s (cur .at) (stateOf cur job)) r n p is t) at turned))
+  pub broken-off : (n p : ℕ) (d : Decoded) → r ≡ Refused n p → d ≡ passedOn r → d ≡ decodedOf (readOf s)
+  broken-off n p d t q =
+      let stopped = stopped-is (stepOf s (cur .at) (stateOf cur (whole cur job e))) n p ((rw t at is) .told) in
+      q ∙ rw t (ap decodedOf (rw stopped at turned))
 
-  module _ (new : Cursor) (took : r .took ≡ Next new) where
-    step-is : stepOf s (cur .at) (stateOf cur job) ≡ next (new .at) (stateOf new (r .job))
-    step-is = (went s (cur .at) (stateOf cur job) r new (m .held .sound) is took _ refl) .1
+  -- the record with what the command adds, read off what stands after it
+  module _ (new : Cursor) (x : Addition) (took : r ≡ Next new x) (j : Job) (y : Expression) (grew : whole new j y ≡ grown cur job e x) where
+    told : went new (whole new j y) ≡ steppedOf (stepOf s (cur .at) (stateOf cur (whole cur job e)))
+    told = rw grew ((rw took at is) .told)
 
-    held : Held new (r .job)
-    held = (went s (cur .at) (stateOf cur job) r new (m .held .sound) is took _ refl) .0
+    step-is : stepOf s (cur .at) (stateOf cur (whole cur job e)) ≡ next (new .at) (stateOf new (whole new j y))
+    step-is = (moved s (cur .at) (stateOf cur (whole cur job e)) new j y (m .held .sound) told _ refl) .1
 
-    pub again : new .last ≢ 0xFF → Midway s (i + 1) new (r .job)
-    again e =
+    held : Held new j y
+    held = (moved s (cur .at) (stateOf cur (whole cur job e)) new j y (m .held .sound) told _ refl) .0
+
+    pub again : new .last ≢ 0xFF → Midway s (i + 1) new j y
+    again n =
         let one-less : length s - (i + 1) ≡ length s - i - 1 = omega arith in
-        record { held = held; left = rw one-less (rw (step-is, ne-eqb (new .last) 0xFF e) at turned) }
+        record { held = held; left = rw one-less (rw (step-is, ne-eqb (new .last) 0xFF n) at turned) }
 
-    pub finished : (d : Decoded) → new .last ≡ 0xFF → d ≡ endedAt s (new .at) (r .job) → d ≡ decodedOf (readOf s)
-    finished d e q = q ∙ go (eqb (new .at) (length s)) refl ∙ ap decodedOf (rw (step-is, eq-eqb (new .last) 0xFF e) at turned)
+    pub finished : (d : Decoded) → new .last ≡ 0xFF → d ≡ endedAt s (new .at) (whole new j y) → d ≡ decodedOf (readOf s)
+    finished d n q = q ∙ go (eqb (new .at) (length s)) refl ∙ ap decodedOf (rw (step-is, eq-eqb (new .last) 0xFF n) at turned)
       where
-        go : (b : Bool) → eqb (new .at) (length s) ≡ b → endedAt s (new .at) (r .job) ≡ decodedOf (ended s (new .at) (stateOf new (r .job)))
-        go true f = rw f (ap (λ (j : Job). record { answer = Whole; job = j }) (held .laid))
+        go : (b : Bool) → eqb (new .at) (length s) ≡ b → endedAt s (new .at) (whole new j y) ≡ decodedOf (ended s (new .at) (stateOf new (whole new j y)))
+        go true f = rw f (ap (λ (r : Job). record { answer = Whole; job = r }) (held .laid))
         go false f = rw f
 
-pub none-left : (s : List ℕ) (i : ℕ) (cur : Cursor) (job : Job) (d : Decoded) → Midway s i cur job → length s ≤ i
+pub none-left : (s : List ℕ) (i : ℕ) (cur : Cursor) (job : Job) (e : Expression) (d : Decoded) → Midway s i cur job e → length s ≤ i
     → d ≡ refusedAt 2 (length s) → d ≡ decodedOf (readOf s)
-none-left s i cur job d m h q =
+none-left s i cur job e d m h q =
     let none : length s - i ≡ 0 = omega arith in
     q ∙ ap decodedOf (rw none at (m .left))
 
 pub not-started : (s : List ℕ) (d : Decoded) → starts s ≡ false → d ≡ refusedAt 1 0 → d ≡ decodedOf (readOf s)
 unfolding readOf
 not-started s d e q = rw e q
+
+-- ---- what the loop does to the record, and to the tables of the columns beside it
+-- what stands there is the record with what a command adds
+abbrev pub Grown : Cursor → Job → Expression → Addition → Cursor → Job → Expression → List ℕ → Type 0
+Grown cur job e x new j y ts = (whole new j y ≡ grown cur job e x) × (ts ≡ tablesIn j)
+
+pub grew : (cur : Cursor) (job : Job) (e : Expression) {x z : Addition} {j k : Job} {y w : Expression} {ts us : List ℕ} → x ≡ z → j ≡ k → y ≡ w
+    → ts ≡ us → whole cur k w ≡ grown cur job e z → us ≡ tablesIn k → Grown cur job e x cur j y ts
+grew cur job e p q r t g h = (rw (p, q, r) g, t ∙ h ∙ ap tablesIn (sym q))
+
+module _ (cur : Cursor) (job : Job) (e : Expression) (x : Addition) (new : Cursor) (j : Job) (y : Expression) (ts : List ℕ)
+    (h : Grown cur job e x cur j y ts) where
+  -- the other expression is taken out where the query begins
+  pub turned-over : {k l : Job} {z w : Expression} → k ≡ placed (cur .«in_query») j y → z ≡ currentIn (new .«in_query») k → l ≡ k → w ≡ z
+      → Grown cur job e x new l w ts
+  turned-over {k = k} p q r o = (rw (o, r, q) (placed-current (new .«in_query») k ∙ p ∙ h .0), h .1 ∙ ap tablesIn (sym (r ∙ p)))
+
+  pub gone-on : {l : Job} {w : Expression} → cur .«in_query» ≡ new .«in_query» → l ≡ j → w ≡ y → Grown cur job e x new l w ts
+  gone-on q r o = (rw (o, r, ← q) (h .0), h .1 ∙ ap tablesIn (sym r))

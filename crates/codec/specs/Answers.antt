@@ -1,11 +1,10 @@
 -- What the code's answers are for what reading gives: a refusal has document 01's number and position, and the empty record beside it.
+use Prim.Native.Nat.{ℕ}
 use Rattle.job.specs.declared.Job.{Job}
 use Rattle.job.specs.Record.{noJob}
 use Rattle.job.specs.Meaning.{meaningOf, recordOf}
 use Rattle.layout.specs.Reading.{State, Step, next, stop, Reading, accepted, refused}
 use Rattle.codec.specs.declared.Cursor.{Cursor}
-use Rattle.codec.specs.declared.Took.the-variants.{Next, Refused as RefusedStep}
-use Rattle.codec.specs.declared.Stepped.{Stepped}
 use Rattle.codec.specs.declared.Answer.the-variants.{Whole, Refused}
 use Rattle.codec.specs.declared.Decoded.{Decoded}
 
@@ -13,9 +12,14 @@ use Rattle.codec.specs.declared.Decoded.{Decoded}
 abbrev pub stateOf : Cursor → Job → State
 stateOf c r = record { last = c .last; inQuery = c .«in_query»; job = meaningOf r }
 
+-- a command in terms of the record: the next cursor and the record with the command's entry, or a refusal with its number and position
+pub data Stepped : Type 0 where
+  went : Cursor → Job → Stepped
+  halted : ℕ → ℕ → Stepped
+
 abbrev pub steppedOf : Step → Stepped
-steppedOf (next at st) = record { took = Next (record { at = at; last = st .last; «in_query» = st .inQuery }); job = recordOf (st .job) }
-steppedOf (stop n at) = record { took = RefusedStep n at; job = noJob }
+steppedOf (next at st) = went (record { at = at; last = st .last; «in_query» = st .inQuery }) (recordOf (st .job))
+steppedOf (stop n at) = halted n at
 
 abbrev pub decodedOf : Reading → Decoded
 decodedOf (accepted j) = record { answer = Whole; job = recordOf j }

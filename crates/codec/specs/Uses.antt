@@ -1,13 +1,13 @@
 -- What the reader's functions answer and what they may rely on: entries added to a record, and the checks of a command's operands.
 use mathlib.Core.Path.{_≡_}
-use mathlib.Core.Bool.{Bool, true, false, cond, _&&_, _||_}
-use mathlib.Core.List.{List, []}
+use mathlib.Core.Bool.{Bool, true, cond, _&&_, _||_}
+use mathlib.Core.List.{List, [], map}
 use mathlib.Core.Option.{Option, none, some}
 use Prim.Native.Nat.{ℕ, _+_, _-_, _≤_, _<_}
 use lib.ListN.{length, getD, set, take}
 use lib.IntN.{ℤ}
 use lib.Signed.{leZ}
-use lib.Dec.{eqb, ltb}
+use lib.Dec.{T, eqb, ltb}
 use Rattle.model.specs.Lists.{anyOf}
 use Rattle.model.specs.WellFormed.{inRange}
 use Rattle.job.specs.declared.Column.{Column}
@@ -19,20 +19,20 @@ use Rattle.job.specs.Record.{noColumn, noJob}
 use Rattle.job.specs.Meaning.{meaningOf, recordOf}
 use Rattle.layout.specs.declared.Command.{Command}
 use Rattle.layout.specs.Commands.{Entry}
-use Rattle.layout.specs.Reading.{State, current, follows, hasRoom, inRanges, opKnown, declared, isNew, added}
+use Rattle.layout.specs.Reading.{State, Step, current, follows, hasRoom, inRanges, opKnown, declared, isNew, added}
 use Rattle.layout.proofs.Sound.{Sound}
 use Rattle.codec.specs.declared.Cursor.{Cursor}
+use Rattle.codec.specs.declared.Addition.{Addition}
+use Rattle.codec.specs.declared.Addition.the-variants.{Table as TableAdded, Column as ColumnAdded, Nothing, Used, Output, Clause as ClauseAdded, Compared}
 use Rattle.codec.specs.declared.Took.{Took}
 use Rattle.codec.specs.declared.Took.the-variants.{Next, Refused as RefusedStep}
-use Rattle.codec.specs.declared.Stepped.{Stepped}
 use Rattle.codec.specs.declared.Answer.the-variants.{Whole, Refused}
 use Rattle.codec.specs.declared.Decoded.{Decoded}
 use Rattle.codec.specs.declared.Listed.{Listed}
 use Rattle.codec.specs.declared.Listed.the-variants.{As, Unlisted}
 use Rattle.codec.specs.declared.Judged.{Judged}
 use Rattle.codec.specs.declared.Judged.the-variants.{Added, Fault}
-use Rattle.codec.specs.declared.Entered.{Entered}
-use Rattle.codec.specs.Answers.{stateOf}
+use Rattle.codec.specs.Answers.{stateOf, Stepped, went, halted, steppedOf}
 
 abbrev pub listedOf : Option Command → Listed
 listedOf none = Unlisted
@@ -42,6 +42,10 @@ listedOf (some c) = As c
 
 abbrev pub currentIn : Bool → Job → Expression
 currentIn q r = cond q (r .query) (r .extract)
+
+-- the tables of the columns
+abbrev pub tablesIn : Job → List ℕ
+tablesIn r = map (λ (c : Column). c .table) (r .columns)
 
 -- the last clause, where there is one
 abbrev pub lastClause : Expression → Clause
@@ -59,11 +63,21 @@ scopedIn r e c = ltb c (r .width) && anyOf (eqb (getD (r .columns) c noColumn .t
 abbrev pub aboveIn : Expression → ℕ → Bool
 aboveIn e t = eqb (e .tables) 0 || ltb (getD (e .used) (e .tables - 1) 0) t
 
--- ---- One entry more
-
+-- with an expression in place of the current one
 abbrev pub placed : Bool → Job → Expression → Job
-placed true r e = record { tables = r .tables; width = r .width; columns = r .columns; extract = r .extract; query = e }
-placed false r e = record { tables = r .tables; width = r .width; columns = r .columns; extract = e; query = r .query }
+placed q r e = record {
+  tables = r .tables;
+  width = r .width;
+  columns = r .columns;
+  extract = cond q (r .extract) e;
+  query = cond q e (r .query);
+}
+
+-- the record that is being read into: the expression that commands are for stands beside it
+abbrev pub whole : Cursor → Job → Expression → Job
+whole cur r e = placed (cur .«in_query») r e
+
+-- ---- One entry more
 
 abbrev pub tableMore : Job → Job
 tableMore r = record { tables = r .tables + 1; width = r .width; columns = r .columns; extract = r .extract; query = r .query }
@@ -121,16 +135,35 @@ pub record Open (e : Expression) : Type 0 where
   pub few : e .size ≤ 4
   pub room : lastClause e .size < 6
 
+-- the record with what a command adds
+abbrev pub grown : Cursor → Job → Expression → Addition → Job
+grown cur r e TableAdded = whole cur (tableMore r) e
+grown cur r e (ColumnAdded k) = whole cur (columnMore r k) e
+grown cur r e Nothing = whole cur r e
+grown cur r e (Used t) = whole cur r (usedMore e t)
+grown cur r e (Output c) = whole cur r (outputMore e c)
+grown cur r e ClauseAdded = whole cur r (clauseMore e)
+grown cur r e (Compared k) = whole cur r (comparisonMore e k)
+
+-- there is room for it
+abbrev pub Fits : Job → Expression → Addition → Type 0
+Fits r e TableAdded = r .tables < 4
+Fits r e (ColumnAdded k) = r .width < 16
+Fits r e Nothing = T true
+Fits r e (Used t) = e .tables < 4
+Fits r e (Output c) = e .width < 16
+Fits r e ClauseAdded = e .size < 4
+Fits r e (Compared k) = Open e
+
 -- ---- The checks 7 to 10
 
 abbrev pub boundsFit : ℤ → ℤ → Bool
 boundsFit lo hi = inRange lo && inRange hi && leZ lo hi
 
-abbrev pub addedTo : Job → Entered
-addedTo r = record { judged = Added; job = r }
-
-abbrev pub faultOf : ℕ → Entered
-faultOf n = record { judged = Fault n; job = noJob }
+-- what they say in terms of the record: the record with the entry, or the number of the refusal
+pub data Entered : Type 0 where
+  addedTo : Job → Entered
+  faultOf : ℕ → Entered
 
 -- refusal n, unless the check is passed
 abbrev pub judge : ℕ → Bool → Entered → Entered
@@ -145,22 +178,47 @@ enteredOf st x =
     (judge 10 (isNew (current st) x)
     (addedTo (recordOf (added (st .inQuery) (st .job) (current st) x))))))
 
+-- what was judged, in terms of the record
+abbrev pub enteredBy : Cursor → Job → Expression → Judged → Entered
+enteredBy cur r e (Added x) = addedTo (grown cur r e x)
+enteredBy cur r e (Fault n) = faultOf n
+
+abbrev pub FitsJudged : Job → Expression → Judged → Type 0
+FitsJudged r e (Added x) = Fits r e x
+FitsJudged r e (Fault n) = T true
+
+-- an entry is judged rightly
+pub record Judges (cur : Cursor) (r : Job) (e : Expression) (x : Entry) (j : Judged) : Type 0 where
+  pub told : enteredBy cur r e j ≡ enteredOf (stateOf cur (whole cur r e)) x
+  pub fits : FitsJudged r e j
+
 -- ---- Steps and the whole
 
-abbrev pub stoppedAt : ℕ → ℕ → Stepped
-stoppedAt n at = record { took = RefusedStep n at; job = noJob }
+-- what was taken, in terms of the record
+abbrev pub steppedBy : Cursor → Job → Expression → Took → Stepped
+steppedBy cur r e (Next c x) = went c (grown cur r e x)
+steppedBy cur r e (RefusedStep n at) = halted n at
+
+abbrev pub FitsTook : Job → Expression → Took → Type 0
+FitsTook r e (Next c x) = Fits r e x
+FitsTook r e (RefusedStep n at) = T true
+
+-- a command is taken rightly
+pub record Takes (cur : Cursor) (r : Job) (e : Expression) (x : Step) (t : Took) : Type 0 where
+  pub told : steppedBy cur r e t ≡ steppedOf x
+  pub fits : FitsTook r e t
 
 -- a command of byte b at a place, the next due at `to`, where the checks 7 to 10 say so
-abbrev pub stepAfter : ℕ → ℕ → ℕ → Bool → Judged → Job → Stepped
-stepAfter at to b q Added r = record { took = Next (record { at = to; last = b; «in_query» = q || eqb b 0x21 }); job = r }
-stepAfter at to b q (Fault n) r = stoppedAt n at
+abbrev pub stepAfter : ℕ → ℕ → ℕ → Bool → Entered → Stepped
+stepAfter at to b q (addedTo r) = went (record { at = to; last = b; «in_query» = q || eqb b 0x21 }) r
+stepAfter at to b q (faultOf n) = halted n at
 
 abbrev pub refusedAt : ℕ → ℕ → Decoded
 refusedAt n at = record { answer = Refused n at; job = noJob }
 
 -- what a step's refusal is for the whole; a step that was taken leaves the rest unread
 abbrev pub passedOn : Took → Decoded
-passedOn (Next c) = refusedAt 2 (c .at)
+passedOn (Next c x) = refusedAt 2 (c .at)
 passedOn (RefusedStep n at) = refusedAt n at
 
 -- the end was read, and the next byte is due at a place
@@ -170,12 +228,12 @@ endedAt s at r = cond (eqb at (length s)) (record { answer = Whole; job = r }) (
 -- ---- What reading keeps
 
 -- the record is a job's, and what has been read is well formed as far as it goes
-pub record Held (cur : Cursor) (job : Job) : Type 0 where
-  pub laid : job ≡ recordOf (meaningOf job)
-  pub sound : Sound (stateOf cur job)
+pub record Held (cur : Cursor) (job : Job) (e : Expression) : Type 0 where
+  pub laid : whole cur job e ≡ recordOf (meaningOf (whole cur job e))
+  pub sound : Sound (stateOf cur (whole cur job e))
 
 -- a command that is in order and has room
-pub record Ready (cur : Cursor) (job : Job) (c : Command) : Type 0 where
-  pub held : Held cur job
-  pub in-order : follows (stateOf cur job) c ≡ true
-  pub room : hasRoom (stateOf cur job) c ≡ true
+pub record Ready (cur : Cursor) (job : Job) (e : Expression) (c : Command) : Type 0 where
+  pub held : Held cur job e
+  pub in-order : follows (stateOf cur (whole cur job e)) c ≡ true
+  pub room : hasRoom (stateOf cur (whole cur job e)) c ≡ true

@@ -1,6 +1,6 @@
 // Job bytes: reading them into a record, and writing a record as bytes.
 ghost use mathlib.Core.Path.{_≡_};
-ghost use mathlib.Core.Bool.{_||_};
+ghost use mathlib.Core.Bool.{false, _||_};
 ghost use mathlib.Core.List.{[], _∷_, _++_};
 ghost use Prim.Native.Nat.{_+_, _≤_, _<_, min};
 ghost use lib.ListN.{length, getD, take, drop};
@@ -11,11 +11,11 @@ ghost use Rattle.model.specs.WellFormed.{inRange};
 ghost use Rattle.model.specs.Coded.{opAt, numberOfOp};
 ghost use Rattle.job.specs.Meaning.{meaningOf};
 ghost use Rattle.layout.specs.declared.Command.the-variants.{NextColumn, TableUsed, OutputColumn, NextClause, NumberCompared, ColumnCompared};
-ghost use Rattle.layout.specs.Commands.{commandOf, operands, ending, before, addClause, entryAt, startBytes};
+ghost use Rattle.layout.specs.Commands.{commandOf, operands, ending, before, entryAt, startBytes};
 ghost use Rattle.layout.specs.Reading.{starts, hasRoom, taken, stepOf, readOf};
 ghost use Rattle.layout.specs.Writing.{jobBytes};
-ghost use Rattle.codec.specs.Answers.{stateOf, steppedOf, decodedOf};
-ghost use Rattle.codec.specs.Uses.{listedOf, currentIn, lastSize, scopedIn, aboveIn, placed, tableMore, columnMore, usedMore, outputMore, clauseMore, comparisonMore, withComparison, Open, boundsFit, addedTo, faultOf, enteredOf, stoppedAt, refusedAt, passedOn, endedAt, Held, Ready};
+ghost use Rattle.codec.specs.Answers.{stateOf, decodedOf};
+ghost use Rattle.codec.specs.Uses.{listedOf, currentIn, lastSize, scopedIn, aboveIn, placed, whole, tablesIn, withComparison, boundsFit, Judges, Takes, refusedAt, passedOn, endedAt, Held, Ready};
 ghost use Rattle.codec.specs.Puts.{Room, Puts, columnsIn, columnIn, tableBytes, tablesBytes, eachBytes, comparisonIn, clauseBytes, clausesBytes, expressionBytes};
 use job::Clause;
 use job::Column;
@@ -31,16 +31,21 @@ pub struct Cursor {
     pub in_query: bool,
 }
 
-// What a command gives: the next cursor, or a refusal with its number and position.
-pub enum Took {
-    Next(Cursor),
-    Refused(u8, usize),
+// What a command adds to the record. The commands that begin an expression or end the job add nothing.
+pub enum Addition {
+    Table,
+    Column(Column),
+    Nothing,
+    Used(u8),
+    Output(u8),
+    Clause,
+    Compared(Comparison),
 }
 
-// The record beside it: with the command's entry added, or the empty one.
-pub struct Stepped {
-    pub took: Took,
-    pub job: Job,
+// What a command gives: the next cursor and what is added, or a refusal with its number and position.
+pub enum Took {
+    Next(Cursor, Addition),
+    Refused(u8, usize),
 }
 
 // What reading gives: the whole job, or a refusal with its number and position.
@@ -61,19 +66,16 @@ enum Listed {
     Unlisted,
 }
 
-// What the checks 7 to 10 say of a command: it is added, or the number of the refusal.
+// What the checks 7 to 10 say of a command: what it adds, or the number of the refusal.
 enum Judged {
-    Added,
+    Added(Addition),
     Fault(u8),
 }
 
-// The record beside it: with the command's entry added, or the empty one.
-struct Entered {
-    pub judged: Judged,
-    pub job: Job,
-}
-
 // ---- Parts of the record
+
+// While commands are read, the expression that they are for stands beside the record: the record is the one with it in its place. What a
+// function takes by value it reads a few numbers of, and nothing is copied; what changes is changed in place, by `read` alone.
 
 // The expression that commands are for.
 fn current(job: Job, in_query: bool) -> Expression
@@ -105,18 +107,17 @@ fn last_size(e: Expression) -> usize
     clause.size
 }
 
-// Whether column c is declared and its table used.
-fn is_in_scope(job: Job, e: Expression, c: u8) -> bool
-    requires { ⌜ (job .width ≤ 16) × (e .tables ≤ 4) ⌝ }
+// Whether column c is declared and its table used. The tables of the columns stand beside the record, where they can be looked up in place.
+fn is_in_scope(tables: &[u8; Job::COLUMNS], job: Job, e: Expression, c: u8) -> bool
+    requires { ⌜ (now tables ≡ tablesIn job) × (job .width ≤ 16) × (e .tables ≤ 4) ⌝ }
     ensures { λ r. ⌜ r ≡ scopedIn job e c ⌝ }
 {
     let k = c as usize;
     if k >= job.width {
         return false;
     }
-    let column = job.columns[k];
     let used = e.used;
-    job::is_among(&used, e.tables, column.table)
+    job::is_among(&used, e.tables, tables[k])
 }
 
 // Whether table t comes after the used tables.
@@ -130,65 +131,6 @@ fn is_above(e: Expression, t: u8) -> bool
     e.used[e.tables - 1] < t
 }
 
-// ---- One entry more
-
-// A table more, with no column yet.
-fn with_table(job: Job) -> Job
-    requires { ⌜ job .tables < 4 ⌝ }
-    ensures { λ r. ⌜ r ≡ tableMore job ⌝ }
-{
-    let n = job.tables;
-    Job {
-        tables: n + 1,
-        ..job
-    }
-}
-
-// A column more, behind those of all tables.
-fn with_column(job: Job, column: Column) -> Job
-    requires { ⌜ job .width < 16 ⌝ }
-    ensures { λ r. ⌜ r ≡ columnMore job column ⌝ }
-{
-    let n = job.width;
-    let mut j = job;
-    j.columns[n] = column;
-    j.width = n + 1;
-    j
-}
-
-// A used table more.
-fn with_used(e: Expression, t: u8) -> Expression
-    requires { ⌜ e .tables < 4 ⌝ }
-    ensures { λ r. ⌜ r ≡ usedMore e t ⌝ }
-{
-    let n = e.tables;
-    let mut x = e;
-    x.used[n] = t;
-    x.tables = n + 1;
-    x
-}
-
-// An output more.
-fn with_output(e: Expression, c: u8) -> Expression
-    requires { ⌜ e .width < 16 ⌝ }
-    ensures { λ r. ⌜ r ≡ outputMore e c ⌝ }
-{
-    let n = e.width;
-    let mut x = e;
-    x.outputs[n] = c;
-    x.width = n + 1;
-    x
-}
-
-// A clause more: past the count the clauses are empty already.
-fn with_clause(e: Expression) -> Expression
-    requires { ⌜ e .size < 4 ⌝ }
-    ensures { λ r. ⌜ r ≡ clauseMore e ⌝ }
-{
-    let n = e.size;
-    Expression { size: n + 1, ..e }
-}
-
 // A comparison more in a clause, which is changed by itself and then stored as a whole.
 fn longer(clause: Clause, k: Comparison) -> Clause
     requires { ⌜ clause .size < 6 ⌝ }
@@ -199,18 +141,6 @@ fn longer(clause: Clause, k: Comparison) -> Clause
     c.comparisons[n] = k;
     c.size = n + 1;
     c
-}
-
-// In the last clause.
-fn with_comparison(e: Expression, k: Comparison) -> Expression
-    requires { ⌜ Open e ⌝ }
-    ensures { λ r. ⌜ r ≡ comparisonMore e k ⌝ }
-{
-    let last = e.size - 1;
-    let clause = e.clauses[last];
-    let mut x = e;
-    x.clauses[last] = longer(clause, k);
-    x
 }
 
 // ---- Commands
@@ -322,11 +252,10 @@ fn has_bytes(s: &[u8], at: usize, n: usize) -> bool
 }
 
 // Whether a command's entry is within the limits.
-fn has_room(c: Command, cur: Cursor, job: Job) -> bool
-    requires { ⌜ Held cur job ⌝ }
-    ensures { λ r. ⌜ r ≡ hasRoom (stateOf cur job) c ⌝ }
+fn has_room(c: Command, cur: Cursor, job: Job, e: Expression) -> bool
+    requires { ⌜ Held cur job e ⌝ }
+    ensures { λ r. ⌜ r ≡ hasRoom (stateOf cur (whole cur job e)) c ⌝ }
 {
-    let e = current(job, cur.in_query);
     match c {
         Command::NextTable => job.tables < Job::TABLES,
         Command::NextColumn => job.width < Job::COLUMNS,
@@ -342,27 +271,6 @@ fn has_room(c: Command, cur: Cursor, job: Job) -> bool
 }
 
 // ---- A command's operands, by the checks 7 to 10 in this order
-
-// The record with the entry.
-fn added(job: Job) -> Entered
-    ensures { λ r. ⌜ r ≡ addedTo job ⌝ }
-{
-    Entered {
-        judged: Judged::Added,
-        job: job,
-    }
-}
-
-// A refusal by its number; the offset is added where it is known.
-fn fault(n: u8) -> Entered
-    ensures { λ r. ⌜ r ≡ faultOf n ⌝ }
-{
-    let job = Job::empty();
-    Entered {
-        judged: Judged::Fault(n),
-        job: job,
-    }
-}
 
 // Whether a value is at most a million either way.
 fn in_range(v: i32) -> bool
@@ -389,15 +297,15 @@ fn are_bounds(lo: i32, hi: i32) -> bool
 }
 
 // 11: lo, hi.
-fn next_column(s: &[u8], cur: Cursor, job: Job) -> Entered
-    requires { ⌜ (Ready cur job NextColumn) × (cur .at + 9 ≤ length (now s)) ⌝ }
-    ensures { λ r. ⌜ r ≡ enteredOf (stateOf cur job) (entryAt NextColumn (now (s .entry)) (cur .at)) ⌝ }
+fn next_column(s: &[u8], cur: Cursor, job: Job, e: Expression) -> Judged
+    requires { ⌜ (Ready cur job e NextColumn) × (cur .at + 9 ≤ length (now s)) ⌝ }
+    ensures { λ r. ⌜ Judges cur job e (entryAt NextColumn (now (s .entry)) (cur .at)) r ⌝ }
 {
     let at = cur.at;
     let lo = words::read(s, at + 1);
     let hi = words::read(s, at + 5);
     if !are_bounds(lo, hi) {
-        return fault(7);
+        return Judged::Fault(7);
     }
     // The table that was declared last.
     let table = (job.tables - 1) as u8;
@@ -406,57 +314,58 @@ fn next_column(s: &[u8], cur: Cursor, job: Job) -> Entered
         lo: lo,
         hi: hi,
     };
-    added(with_column(job, column))
+    Judged::Added(Addition::Column(column))
 }
 
 // 30: a table, declared and above the ones before it.
-fn table_used(s: &[u8], cur: Cursor, job: Job) -> Entered
-    requires { ⌜ (Ready cur job TableUsed) × (cur .at + 2 ≤ length (now s)) ⌝ }
-    ensures { λ r. ⌜ r ≡ enteredOf (stateOf cur job) (entryAt TableUsed (now (s .entry)) (cur .at)) ⌝ }
+fn table_used(s: &[u8], cur: Cursor, job: Job, e: Expression) -> Judged
+    requires { ⌜ (Ready cur job e TableUsed) × (cur .at + 2 ≤ length (now s)) ⌝ }
+    ensures { λ r. ⌜ Judges cur job e (entryAt TableUsed (now (s .entry)) (cur .at)) r ⌝ }
 {
     let at = cur.at;
     let t = s[at + 1];
     if t as usize >= job.tables {
-        return fault(9);
+        return Judged::Fault(9);
     }
-    let e = current(job, cur.in_query);
     if !is_above(e, t) {
-        return fault(10);
+        return Judged::Fault(10);
     }
-    added(with_current(job, cur.in_query, with_used(e, t)))
+    Judged::Added(Addition::Used(t))
 }
 
 // 31: a column in scope that is no output yet.
-fn output_column(s: &[u8], cur: Cursor, job: Job) -> Entered
-    requires { ⌜ (Ready cur job OutputColumn) × (cur .at + 2 ≤ length (now s)) ⌝ }
-    ensures { λ r. ⌜ r ≡ enteredOf (stateOf cur job) (entryAt OutputColumn (now (s .entry)) (cur .at)) ⌝ }
+fn output_column(
+    s: &[u8],
+    tables: &[u8; Job::COLUMNS],
+    cur: Cursor,
+    job: Job,
+    e: Expression,
+) -> Judged
+    requires { ⌜ (Ready cur job e OutputColumn) × (cur .at + 2 ≤ length (now s)) × (now tables ≡ tablesIn job) ⌝ }
+    ensures { λ r. ⌜ Judges cur job e (entryAt OutputColumn (now (s .entry)) (cur .at)) r ⌝ }
 {
     let at = cur.at;
     let c = s[at + 1];
-    let e = current(job, cur.in_query);
-    if !is_in_scope(job, e, c) {
-        return fault(9);
+    if !is_in_scope(tables, job, e, c) {
+        return Judged::Fault(9);
     }
     let outputs = e.outputs;
     if job::is_among(&outputs, e.width, c) {
-        return fault(10);
+        return Judged::Fault(10);
     }
-    added(with_current(job, cur.in_query, with_output(e, c)))
-}
-
-// 40.
-fn next_clause(cur: Cursor, job: Job) -> Entered
-    requires { ⌜ Ready cur job NextClause ⌝ }
-    ensures { λ r. ⌜ r ≡ enteredOf (stateOf cur job) addClause ⌝ }
-{
-    let e = current(job, cur.in_query);
-    added(with_current(job, cur.in_query, with_clause(e)))
+    Judged::Added(Addition::Output(c))
 }
 
 // 41: op, column, number. The number is judged before the op.
-fn number_compared(s: &[u8], cur: Cursor, job: Job) -> Entered
-    requires { ⌜ (Ready cur job NumberCompared) × (cur .at + 7 ≤ length (now s)) ⌝ }
-    ensures { λ r. ⌜ r ≡ enteredOf (stateOf cur job) (entryAt NumberCompared (now (s .entry)) (cur .at)) ⌝ }
+fn number_compared(
+    s: &[u8],
+    tables: &[u8; Job::COLUMNS],
+    cur: Cursor,
+    job: Job,
+    e: Expression,
+) -> Judged
+    requires { ⌜ (Ready cur job e NumberCompared) × (cur .at + 7 ≤ length (now s)) × (now tables ≡ tablesIn job) ⌝ }
+    ensures { λ r. ⌜ Judges cur job e (entryAt NumberCompared (now (s .entry)) (cur .at)) r ⌝ }
 {
     let at = cur.at;
     let number = words::read(s, at + 3);
@@ -464,15 +373,14 @@ fn number_compared(s: &[u8], cur: Cursor, job: Job) -> Entered
     let fits = in_range(number);
     let known = op <= 4;
     if !fits {
-        return fault(7);
+        return Judged::Fault(7);
     }
     if !known {
-        return fault(8);
+        return Judged::Fault(8);
     }
     let left = s[at + 2];
-    let e = current(job, cur.in_query);
-    if !is_in_scope(job, e, left) {
-        return fault(9);
+    if !is_in_scope(tables, job, e, left) {
+        return Judged::Fault(9);
     }
     let k = Comparison {
         op: op,
@@ -480,27 +388,32 @@ fn number_compared(s: &[u8], cur: Cursor, job: Job) -> Entered
         right: 0,
         number: number,
     };
-    compared(job, cur.in_query, k)
+    Judged::Added(Addition::Compared(k))
 }
 
 // 42: op, column, column.
-fn column_compared(s: &[u8], cur: Cursor, job: Job) -> Entered
-    requires { ⌜ (Ready cur job ColumnCompared) × (cur .at + 4 ≤ length (now s)) ⌝ }
-    ensures { λ r. ⌜ r ≡ enteredOf (stateOf cur job) (entryAt ColumnCompared (now (s .entry)) (cur .at)) ⌝ }
+fn column_compared(
+    s: &[u8],
+    tables: &[u8; Job::COLUMNS],
+    cur: Cursor,
+    job: Job,
+    e: Expression,
+) -> Judged
+    requires { ⌜ (Ready cur job e ColumnCompared) × (cur .at + 4 ≤ length (now s)) × (now tables ≡ tablesIn job) ⌝ }
+    ensures { λ r. ⌜ Judges cur job e (entryAt ColumnCompared (now (s .entry)) (cur .at)) r ⌝ }
 {
     let at = cur.at;
     let op = s[at + 1];
     if op > 4 {
-        return fault(8);
+        return Judged::Fault(8);
     }
     let left = s[at + 2];
-    let e = current(job, cur.in_query);
-    if !is_in_scope(job, e, left) {
-        return fault(9);
+    if !is_in_scope(tables, job, e, left) {
+        return Judged::Fault(9);
     }
     let right = s[at + 3];
-    if !is_in_scope(job, e, right) {
-        return fault(9);
+    if !is_in_scope(tables, job, e, right) {
+        return Judged::Fault(9);
     }
     let k = Comparison {
         op: op,
@@ -508,49 +421,36 @@ fn column_compared(s: &[u8], cur: Cursor, job: Job) -> Entered
         right: right + 1,
         number: 0,
     };
-    compared(job, cur.in_query, k)
-}
-
-// A comparison more in the last clause.
-fn compared(job: Job, in_query: bool, k: Comparison) -> Entered
-    requires { ⌜ Open (currentIn in_query job) ⌝ }
-    ensures { λ r. ⌜ r ≡ addedTo (placed in_query job (comparisonMore (currentIn in_query job) k)) ⌝ }
-{
-    let e = current(job, in_query);
-    added(with_current(job, in_query, with_comparison(e, k)))
+    Judged::Added(Addition::Compared(k))
 }
 
 // A command that has passed the checks 2 to 6.
-fn enter(s: &[u8], cur: Cursor, job: Job, c: Command) -> Entered
-    requires { ⌜ (Ready cur job c) × (cur .at + 1 + operands c ≤ length (now s)) ⌝ }
-    ensures { λ r. ⌜ r ≡ enteredOf (stateOf cur job) (entryAt c (now (s .entry)) (cur .at)) ⌝ }
+fn enter(
+    s: &[u8],
+    tables: &[u8; Job::COLUMNS],
+    cur: Cursor,
+    job: Job,
+    e: Expression,
+    c: Command,
+) -> Judged
+    requires { ⌜ (Ready cur job e c) × (cur .at + 1 + operands c ≤ length (now s)) × (now tables ≡ tablesIn job) ⌝ }
+    ensures { λ r. ⌜ Judges cur job e (entryAt c (now (s .entry)) (cur .at)) r ⌝ }
 {
     match c {
-        Command::NextTable => added(with_table(job)),
-        Command::NextColumn => next_column(s, cur, job),
-        Command::ExtractBegins => added(job),
-        Command::QueryBegins => added(job),
-        Command::TableUsed => table_used(s, cur, job),
-        Command::OutputColumn => output_column(s, cur, job),
-        Command::NextClause => next_clause(cur, job),
-        Command::NumberCompared => number_compared(s, cur, job),
-        Command::ColumnCompared => column_compared(s, cur, job),
-        Command::End => added(job),
+        Command::NextTable => Judged::Added(Addition::Table),
+        Command::NextColumn => next_column(s, cur, job, e),
+        Command::ExtractBegins => Judged::Added(Addition::Nothing),
+        Command::QueryBegins => Judged::Added(Addition::Nothing),
+        Command::TableUsed => table_used(s, cur, job, e),
+        Command::OutputColumn => output_column(s, tables, cur, job, e),
+        Command::NextClause => Judged::Added(Addition::Clause),
+        Command::NumberCompared => number_compared(s, tables, cur, job, e),
+        Command::ColumnCompared => column_compared(s, tables, cur, job, e),
+        Command::End => Judged::Added(Addition::Nothing),
     }
 }
 
 // ---- Commands, one by one
-
-// A refusal of a command: no part of the record that was read so far is given.
-fn stopped(n: u8, at: usize) -> Stepped
-    ensures { λ r. ⌜ r ≡ stoppedAt n at ⌝ }
-{
-    let job = Job::empty();
-    Stepped {
-        took: Took::Refused(n, at),
-        job: job,
-    }
-}
 
 // Whether the query has begun after a command of byte b.
 fn has_begun(in_query: bool, b: u8) -> bool
@@ -560,56 +460,60 @@ fn has_begun(in_query: bool, b: u8) -> bool
 }
 
 // A listed command, through the checks 4 to 10.
-fn take(s: &[u8], cur: Cursor, job: Job, c: Command) -> Stepped
-    requires { ⌜ (Held cur job) × (cur .at < length (now s)) ⌝ }
-    ensures { λ r. ⌜ r ≡ steppedOf (taken (now (s .entry)) (cur .at) (stateOf cur job) (getD (now (s .entry)) (cur .at) 0) c) ⌝ }
+fn take(
+    s: &[u8],
+    tables: &[u8; Job::COLUMNS],
+    cur: Cursor,
+    job: Job,
+    e: Expression,
+    c: Command,
+) -> Took
+    requires { ⌜ (Held cur job e) × (cur .at < length (now s)) × (now tables ≡ tablesIn job) ⌝ }
+    ensures { λ r. ⌜ Takes cur job e (taken (now (s .entry)) (cur .at) (stateOf cur (whole cur job e)) (getD (now (s .entry)) (cur .at) 0) c) r ⌝ }
 {
     let at = cur.at;
     let n = operands(c);
     let due = follows(c, cur.last, cur.in_query);
-    let room = has_room(c, cur, job);
+    let room = has_room(c, cur, job, e);
     let whole = has_bytes(s, at, n);
     if !due {
-        return stopped(4, at);
+        return Took::Refused(4, at);
     }
     if !room {
-        return stopped(5, at);
+        return Took::Refused(5, at);
     }
     if !whole {
-        return stopped(6, at);
+        return Took::Refused(6, at);
     }
-    let entered = enter(s, cur, job, c);
-    let judged = entered.judged;
-    let Judged::Fault(k) = judged else {
-        let rest = entered.job;
-        let b = s[at];
-        let next = Cursor {
-            at: at + 1 + n,
-            last: b,
-            in_query: has_begun(cur.in_query, b),
-        };
-        return Stepped {
-            took: Took::Next(next),
-            job: rest,
-        };
-    };
-    stopped(k, at)
+    let judged = enter(s, tables, cur, job, e, c);
+    match judged {
+        Judged::Added(x) => {
+            let b = s[at];
+            let next = Cursor {
+                at: at + 1 + n,
+                last: b,
+                in_query: has_begun(cur.in_query, b),
+            };
+            Took::Next(next, x)
+        }
+        Judged::Fault(k) => Took::Refused(k, at),
+    }
 }
 
 // One command, through the checks 2 to 10.
-fn step(s: &[u8], cur: Cursor, job: Job) -> Stepped
-    requires { ⌜ Held cur job ⌝ }
-    ensures { λ r. ⌜ r ≡ steppedOf (stepOf (now (s .entry)) (cur .at) (stateOf cur job)) ⌝ }
+fn step(s: &[u8], tables: &[u8; Job::COLUMNS], cur: Cursor, job: Job, e: Expression) -> Took
+    requires { ⌜ (Held cur job e) × (now tables ≡ tablesIn job) ⌝ }
+    ensures { λ r. ⌜ Takes cur job e (stepOf (now (s .entry)) (cur .at) (stateOf cur (whole cur job e))) r ⌝ }
 {
     let at = cur.at;
     if at >= s.len() {
-        return stopped(2, s.len());
+        return Took::Refused(2, s.len());
     }
     let listed = command(s[at]);
     let Listed::As(c) = listed else {
-        return stopped(3, at);
+        return Took::Refused(3, at);
     };
-    take(s, cur, job, c)
+    take(s, tables, cur, job, e, c)
 }
 
 // ---- The whole job
@@ -630,9 +534,16 @@ fn passed_on(took: Took) -> Decoded
     ensures { λ r. ⌜ r ≡ passedOn took ⌝ }
 {
     match took {
-        Took::Next(next) => refused(2, next.at),
+        Took::Next(next, _x) => refused(2, next.at),
         Took::Refused(n, at) => refused(n, at),
     }
+}
+
+// Whether the query has begun by one of two commands, and not by the other.
+fn differ(a: bool, b: bool) -> bool
+    ensures { λ r. ⌜ (r ≡ false → a ≡ b) ⌝ }
+{
+    if a { !b } else { b }
 }
 
 // After the end nothing may follow.
@@ -662,19 +573,54 @@ pub fn read(s: &[u8]) -> Decoded
         in_query: false,
     };
     let mut job = Job::empty();
+    let mut e = job.extract;
+    let mut tables = [0u8; Job::COLUMNS];
     let mut i = 0;
     while i < s.len() {
-        let stepped = step(s, cur, job);
-        let took = stepped.took;
-        let rest = stepped.job;
-        let Took::Next(next) = took else {
+        let took = step(s, &tables, cur, job, e);
+        let Took::Next(next, x) = took else {
             return passed_on(took);
         };
+        match x {
+            Addition::Table => {
+                let n = job.tables;
+                job.tables = n + 1;
+            }
+            Addition::Column(k) => {
+                let n = job.width;
+                job.columns[n] = k;
+                tables[n] = k.table;
+                job.width = n + 1;
+            }
+            Addition::Nothing => {}
+            Addition::Used(t) => {
+                let n = e.tables;
+                e.used[n] = t;
+                e.tables = n + 1;
+            }
+            Addition::Output(c) => {
+                let n = e.width;
+                e.outputs[n] = c;
+                e.width = n + 1;
+            }
+            Addition::Clause => {
+                let n = e.size;
+                e.size = n + 1;
+            }
+            Addition::Compared(k) => {
+                let last = e.size - 1;
+                let clause = e.clauses[last];
+                e.clauses[last] = longer(clause, k);
+            }
+        }
+        if differ(cur.in_query, next.in_query) {
+            job = with_current(job, cur.in_query, e);
+            e = current(job, next.in_query);
+        }
         if next.last == 0xFF {
-            return ended(s, next.at, rest);
+            return ended(s, next.at, with_current(job, next.in_query, e));
         }
         cur = next;
-        job = rest;
         i += 1;
     }
     refused(2, s.len())

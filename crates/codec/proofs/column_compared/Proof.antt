@@ -4,7 +4,7 @@ use native.Mathlib.Omega.{arith}
 use lib.ListN.{getD}
 use borrow.Author.Needs.{needs}
 use Rattle.codec.proofs.Tests.{passed, failed}
-use Rattle.codec.proofs.Entries.{width-small, tables-small, scoped-below, left-out-too, right-out, no-op-either, open-held, add-columns}
+use Rattle.codec.proofs.Entries.{width-small, tables-small, scoped-below, no-op-either, left-out-too, right-out, add-columns}
 use Rattle.codec.proofs.column_compared.Statement.{statement}
 use Rattle.codec.proofs.column_compared.Tie as tie
 
@@ -14,72 +14,53 @@ column-compared-spec =
     (tie.spec
     (λ c. search needs)
     (λ c. search needs)
-    (λ c κs. search needs)
     (λ c.
-    let pre = c .before .before .before .before .pre in
-    let args = c .before .before .before .before .args in
-    let if1 = c .before .if1 in
+    let pre = c .before .before .before .pre in
+    let args = c .before .before .before .args in
     no-op-either (pre .0 .held) (getD (args .s .now) (args .cur .at + 1) 0) (getD (args .s .now) (args .cur .at + 2) 0)
-    (getD (args .s .now) (args .cur .at + 3) 0) _ (c .fault .ensures) (if1 .taken))
+    (getD (args .s .now) (args .cur .at + 3) 0) (c .if1 .taken))
     (λ c. search needs)
     (λ c. search needs)
-    (λ c κs. search needs)
-    (λ c κs.
-    let pre = c .before .before .before .before .before .pre in
-    (width-small (pre .0 .held), tables-small (pre .0 .held) (c .current .result) (c .current .ensures)))
-    (λ c κs. search needs)
+    (λ c κs. let pre = c .before .before .before .before .pre in (pre .2, width-small (pre .0 .held), tables-small (pre .0 .held)))
     (λ c.
-    let pre = c .before .before .before .before .before .before .before .before .pre in
-    let args = c .before .before .before .before .before .before .before .before .args in
-    let if1 = c .before .before .before .before .before .if1 in
-    let current = c .before .before .before .current in
-    let is-in-scope = c .before .before .is-in-scope in
-    let if2 = c .before .if2 in
-    left-out-too (pre .0 .held) (current .result) (current .ensures) (getD (args .s .now) (args .cur .at + 1) 0)
-    (getD (args .s .now) (args .cur .at + 2) 0) (getD (args .s .now) (args .cur .at + 3) 0) _ (c .fault2 .ensures) (if1 .left)
-    (failed (is-in-scope .ensures) (if2 .taken)))
+    let pre = c .before .before .before .before .before .before .pre in
+    let args = c .before .before .before .before .before .before .args in
+    let if1 = c .before .before .before .if1 in
+    let is-in-scope = c .before .is-in-scope in
+    left-out-too (pre .0 .held) (getD (args .s .now) (args .cur .at + 1) 0) (getD (args .s .now) (args .cur .at + 2) 0)
+    (getD (args .s .now) (args .cur .at + 3) 0) (if1 .left) (failed (is-in-scope .ensures) (c .if2 .taken)))
     (λ c. search needs)
     (λ c. search needs)
     (λ c κs.
-    let pre = c .before .before .before .before .before .before .before .before .pre in
-    let current = c .before .before .before .current in
-    (width-small (pre .0 .held), tables-small (pre .0 .held) (current .result) (current .ensures)))
-    (λ c κs. search needs)
+    let pre = c .before .before .before .before .before .before .before .pre in
+    (pre .2, width-small (pre .0 .held), tables-small (pre .0 .held)))
     (λ c.
-    let pre = c .before .before .before .before .before .before .before .before .before .before .before .pre in
-    let args = c .before .before .before .before .before .before .before .before .before .before .before .args in
-    let if1 = c .before .before .before .before .before .before .before .before .if1 in
-    let current = c .before .before .before .before .before .before .current in
-    let is-in-scope = c .before .before .before .before .before .is-in-scope in
-    let if2 = c .before .before .before .before .if2 in
-    let is-in-scope2 = c .before .before .is-in-scope2 in
-    let if3 = c .before .if3 in
-    right-out (pre .0 .held) (current .result) (current .ensures) (getD (args .s .now) (args .cur .at + 1) 0)
-    (getD (args .s .now) (args .cur .at + 2) 0) (getD (args .s .now) (args .cur .at + 3) 0) _ (c .fault3 .ensures) (if1 .left)
-    (passed (is-in-scope .ensures) (if2 .left)) (failed (is-in-scope2 .ensures) (if3 .taken)))
+    let pre = c .before .before .before .before .before .before .before .before .before .pre in
+    let args = c .before .before .before .before .before .before .before .before .before .args in
+    let if1 = c .before .before .before .before .before .before .if1 in
+    let is-in-scope = c .before .before .before .before .is-in-scope in
+    let if2 = c .before .before .before .if2 in
+    let is-in-scope2 = c .before .is-in-scope2 in
+    right-out (pre .0 .held) (getD (args .s .now) (args .cur .at + 1) 0) (getD (args .s .now) (args .cur .at + 2) 0)
+    (getD (args .s .now) (args .cur .at + 3) 0) (if1 .left) (passed (is-in-scope .ensures) (if2 .left))
+    (failed (is-in-scope2 .ensures) (c .if3 .taken)))
     (λ c.
-    let pre = c .before .before .before .before .before .before .before .before .before .before .pre in
-    let args = c .before .before .before .before .before .before .before .before .before .before .args in
-    let current = c .before .before .before .before .before .current in
+    let pre = c .before .before .before .before .before .before .before .before .before .pre in
+    let args = c .before .before .before .before .before .before .before .before .before .args in
     let is-in-scope2 = c .before .is-in-scope2 in
     omega (
       arith,
       width-small (pre .0 .held),
-      scoped-below (pre .0 .held) (current .result) (current .ensures)
-          (getD (args .s .now) (args .cur .at + 3) 0) (passed (is-in-scope2 .ensures) (c .if3 .left)),
+      scoped-below (pre .0 .held) (getD (args .s .now) (args .cur .at + 3) 0)
+          (passed (is-in-scope2 .ensures) (c .if3 .left)),
     ))
-    (λ c κs.
-    let pre = c .before .before .before .before .before .before .before .before .before .before .pre in
-    open-held (pre .0 .held) (pre .0 .in-order) (pre .0 .room))
     (λ c.
-    let pre = c .before .before .before .before .before .before .before .before .before .before .before .pre in
-    let args = c .before .before .before .before .before .before .before .before .before .before .before .args in
-    let if1 = c .before .before .before .before .before .before .before .before .if1 in
-    let current = c .before .before .before .before .before .before .current in
-    let is-in-scope = c .before .before .before .before .before .is-in-scope in
-    let if2 = c .before .before .before .before .if2 in
-    let is-in-scope2 = c .before .before .is-in-scope2 in
-    let if3 = c .before .if3 in
-    add-columns (pre .0 .held) (pre .0 .in-order) (pre .0 .room) (current .result) (current .ensures) (getD (args .s .now) (args .cur .at + 1) 0)
-    (getD (args .s .now) (args .cur .at + 2) 0) (getD (args .s .now) (args .cur .at + 3) 0) _ (c .compared .ensures) (if1 .left)
-    (passed (is-in-scope .ensures) (if2 .left)) (passed (is-in-scope2 .ensures) (if3 .left))))
+    let pre = c .before .before .before .before .before .before .before .before .before .pre in
+    let args = c .before .before .before .before .before .before .before .before .before .args in
+    let if1 = c .before .before .before .before .before .before .if1 in
+    let is-in-scope = c .before .before .before .before .is-in-scope in
+    let if2 = c .before .before .before .if2 in
+    let is-in-scope2 = c .before .is-in-scope2 in
+    add-columns (pre .0 .held) (pre .0 .in-order) (pre .0 .room) (getD (args .s .now) (args .cur .at + 1) 0)
+    (getD (args .s .now) (args .cur .at + 2) 0) (getD (args .s .now) (args .cur .at + 3) 0) (if1 .left) (passed (is-in-scope .ensures) (if2 .left))
+    (passed (is-in-scope2 .ensures) (c .if3 .left))))

@@ -1,7 +1,7 @@
 -- `codec::enter` meets its contract. Assumes nothing.
 use lib.ListN.{length}
 use borrow.Author.Needs.{needs}
-use Rattle.codec.proofs.Entries.{table-free, add-table, add-mark}
+use Rattle.codec.proofs.Entries.{add-table, add-mark, add-clause}
 use Rattle.codec.proofs.Steps.{as-many}
 use Rattle.codec.proofs.enter.Statement.{statement}
 use Rattle.codec.proofs.enter.Tie as tie
@@ -11,19 +11,13 @@ enter-spec =
     tie.close
     (tie.spec
     (λ c. search needs)
-    (λ c κs.
-    let pre = c .before .before .before .pre in
-    table-free (pre .0 .held) (rw (c .enum-told .given .1) at (pre .0 .room)))
-    (λ c κs. search needs)
     (λ c. search needs)
     (λ c κs.
     let pre = c .before .before .before .pre in
     let args = c .before .before .before .args in
     (rw (c .enum-told2 .given .1) at (pre .0), as-many (args .cur .at) (length (args .s .now)) (c .enum-told2 .given .1) (pre .1)))
     (λ c. search needs)
-    (λ c κs. search needs)
     (λ c. search needs)
-    (λ c κs. search needs)
     (λ c. search needs)
     (λ c κs.
     let pre = c .before .before .before .pre in
@@ -33,32 +27,30 @@ enter-spec =
     (λ c κs.
     let pre = c .before .before .before .pre in
     let args = c .before .before .before .args in
-    (rw (c .enum-told6 .given .1) at (pre .0), as-many (args .cur .at) (length (args .s .now)) (c .enum-told6 .given .1) (pre .1)))
+    (rw (c .enum-told6 .given .1) at (pre .0), as-many (args .cur .at) (length (args .s .now)) (c .enum-told6 .given .1) (pre .1), pre .2))
     (λ c. search needs)
-    (λ c κs. rw (c .enum-told7 .given .1) at (c .before .before .before .pre .0))
-    (λ c. search needs)
-    (λ c κs.
-    let pre = c .before .before .before .pre in
-    let args = c .before .before .before .args in
-    (rw (c .enum-told8 .given .1) at (pre .0), as-many (args .cur .at) (length (args .s .now)) (c .enum-told8 .given .1) (pre .1)))
     (λ c. search needs)
     (λ c κs.
     let pre = c .before .before .before .pre in
     let args = c .before .before .before .args in
-    (rw (c .enum-told9 .given .1) at (pre .0), as-many (args .cur .at) (length (args .s .now)) (c .enum-told9 .given .1) (pre .1)))
+    (rw (c .enum-told8 .given .1) at (pre .0), as-many (args .cur .at) (length (args .s .now)) (c .enum-told8 .given .1) (pre .1), pre .2))
     (λ c. search needs)
-    (λ c κs. search needs)
+    (λ c κs.
+    let pre = c .before .before .before .pre in
+    let args = c .before .before .before .args in
+    (rw (c .enum-told9 .given .1) at (pre .0), as-many (args .cur .at) (length (args .s .now)) (c .enum-told9 .given .1) (pre .1), pre .2))
+    (λ c. search needs)
     (λ c.
-    let pre = c .before .before .before .before .before .pre in
-    let enum-told = c .before .before .enum-told in
-    let with-table = c .before .with-table in
-    rw (enum-told .given .1) (add-table (pre .0 .held) _ _ (with-table .ensures) (c .added .ensures)))
+    let pre = c .before .before .before .pre in
+    rw (c .enum-told .given .1) (add-table (pre .0 .held) (rw (c .enum-told .given .1) at (pre .0 .room))))
     (λ c. rw (c .before .enum-told2 .given .1) (c .next-column .ensures))
-    (λ c. rw (c .before .enum-told3 .given .1) (add-mark (c .before .before .before .before .pre .0 .held) 0x20 _ (c .added2 .ensures)))
-    (λ c. rw (c .before .enum-told4 .given .1) (add-mark (c .before .before .before .before .pre .0 .held) 0x21 _ (c .added3 .ensures)))
+    (λ c. rw (c .enum-told3 .given .1) (add-mark (c .before .before .before .pre .0 .held) 0x20))
+    (λ c. rw (c .enum-told4 .given .1) (add-mark (c .before .before .before .pre .0 .held) 0x21))
     (λ c. rw (c .before .enum-told5 .given .1) (c .table-used .ensures))
     (λ c. rw (c .before .enum-told6 .given .1) (c .output-column .ensures))
-    (λ c. rw (c .before .enum-told7 .given .1) (c .next-clause .ensures))
+    (λ c.
+    let pre = c .before .before .before .pre in
+    rw (c .enum-told7 .given .1) (add-clause (pre .0 .held) (rw (c .enum-told7 .given .1) at (pre .0 .room))))
     (λ c. rw (c .before .enum-told8 .given .1) (c .number-compared .ensures))
     (λ c. rw (c .before .enum-told9 .given .1) (c .column-compared .ensures))
-    (λ c. rw (c .before .enum-told10 .given .1) (add-mark (c .before .before .before .before .pre .0 .held) 0xFF _ (c .added4 .ensures))))
+    (λ c. rw (c .enum-told10 .given .1) (add-mark (c .before .before .before .pre .0 .held) 0xFF)))

@@ -3,11 +3,11 @@ use mathlib.Core.Path.{_∙_}
 use Prim.Native.Nat.{_+_}
 use native.Mathlib.Omega.{arith}
 use borrow.Author.Needs.{needs, sfits-of}
+use borrow.Author.Needs.{needs}
 use mir.Facts.{toZ-ofZ}
 use Rattle.words.specs.Word.{valueAt}
 use Rattle.codec.proofs.Tests.{passed, failed, bounds-are}
-use Rattle.codec.proofs.Keeping.{tables-held}
-use Rattle.codec.proofs.Entries.{some-tables, column-free, not-bounds, add-column}
+use Rattle.codec.proofs.Entries.{some-tables, tables-few, not-bounds, add-column}
 use Rattle.codec.proofs.next_column.Statement.{statement}
 use Rattle.codec.proofs.next_column.Tie as tie
 
@@ -20,7 +20,17 @@ next-column-spec =
     (λ c. search needs)
     (λ c κs. search needs)
     (λ c κs. search needs)
-    (λ c κs. search needs)
+    (λ c.
+    let pre = c .before .before .before .before .before .pre in
+    let args = c .before .before .before .before .before .args in
+    let low = c .before .before .before .read in
+    let high = c .before .before .read2 in
+    let are-bounds = c .before .are-bounds in
+    not-bounds (pre .0 .held) (valueAt 4 (args .s .now) (args .cur .at + 1)) (valueAt 4 (args .s .now) (args .cur .at + 5))
+    (failed (bounds-are (toZ-ofZ (sfits-of (low .ok)) ∙ low .ensures) (toZ-ofZ (sfits-of (high .ok)) ∙ high .ensures) (are-bounds .ensures))
+    (c .if1 .taken)))
+    (λ c. let pre = c .before .before .before .before .before .before .pre in some-tables (pre .0 .held) (pre .0 .in-order))
+    (λ c. omega (arith, tables-few (c .before .before .before .before .before .before .pre .0 .held)))
     (λ c.
     let pre = c .before .before .before .before .before .before .pre in
     let args = c .before .before .before .before .before .before .args in
@@ -28,28 +38,8 @@ next-column-spec =
     let high = c .before .before .before .read2 in
     let are-bounds = c .before .before .are-bounds in
     let if1 = c .before .if1 in
-    not-bounds (pre .0 .held) (valueAt 4 (args .s .now) (args .cur .at + 1)) (valueAt 4 (args .s .now) (args .cur .at + 5)) _ (c .fault .ensures)
-    (failed (bounds-are (toZ-ofZ (sfits-of (low .ok)) ∙ low .ensures) (toZ-ofZ (sfits-of (high .ok)) ∙ high .ensures) (are-bounds .ensures))
-    (if1 .taken)))
-    (λ c.
-    let pre = c .before .before .before .before .before .before .pre in
-    some-tables (pre .0 .held) (pre .0 .in-order))
-    (λ c.
-    let pre = c .before .before .before .before .before .before .pre in
-    omega (arith, tables-held (pre .0 .held), pre .0 .held .sound .few-tables))
-    (λ c κs.
-    let pre = c .before .before .before .before .before .before .pre in
-    column-free (pre .0 .held) (pre .0 .room))
-    (λ c κs. search needs)
-    (λ c.
-    let pre = c .before .before .before .before .before .before .before .before .pre in
-    let args = c .before .before .before .before .before .before .before .before .args in
-    let low = c .before .before .before .before .before .before .read in
-    let high = c .before .before .before .before .before .read2 in
-    let are-bounds = c .before .before .before .before .are-bounds in
-    let if1 = c .before .before .before .if1 in
-    let with-column = c .before .with-column in
-    add-column (pre .0 .held) (valueAt 4 (args .s .now) (args .cur .at + 1)) (valueAt 4 (args .s .now) (args .cur .at + 5)) _ _ _ _
-    (toZ-ofZ (sfits-of (low .ok)) ∙ low .ensures) (toZ-ofZ (sfits-of (high .ok)) ∙ high .ensures) (with-column .ensures) (c .added .ensures)
+    add-column (pre .0 .held) (valueAt 4 (args .s .now) (args .cur .at + 1)) (valueAt 4 (args .s .now) (args .cur .at + 5)) _ _
+    (toZ-ofZ (sfits-of (low .ok)) ∙ low .ensures) (toZ-ofZ (sfits-of (high .ok)) ∙ high .ensures)
     (passed (bounds-are (toZ-ofZ (sfits-of (low .ok)) ∙ low .ensures) (toZ-ofZ (sfits-of (high .ok)) ∙ high .ensures) (are-bounds .ensures))
-    (if1 .left)) (some-tables (pre .0 .held) (pre .0 .in-order)) (column-free (pre .0 .held) (pre .0 .room))))
+    (if1 .left))
+    (some-tables (pre .0 .held) (pre .0 .in-order)) (pre .0 .room)))
