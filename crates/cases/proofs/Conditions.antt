@@ -10,15 +10,15 @@ use lib.Seq.{getD-drop}
 use lib.IntN.{pos}
 use lib.Dec.{T, ltb, ltb→lt, lt→ltb}
 use mir.Facts.{and-yes, yes-and}
+use Rattle.base.specs.Lists.{_∈_, anyOf, allOf, flatMap}
+use Rattle.base.proofs.Lists.{all-has, has-all, flatMap-has, any-append, all-append}
+use Rattle.base.proofs.Tests.{not-or, not-and}
 use Rattle.words.specs.Compare.{Op, equal, holds}
-use Rattle.model.specs.Lists.{_∈_, anyOf, allOf, flatMap}
 use Rattle.model.specs.Tables.{Row, Against, column, number, Comparison, Clause, Condition, value, operand, comparisonHolds, clauseHolds, conditionHolds}
 use Rattle.model.specs.Rows.{sameRow}
-use Rattle.model.proofs.Lists.{all-has, has-all, flatMap-has}
 use Rattle.solver.specs.Comparisons.{opposites}
 use Rattle.solver.specs.Solver.{againstFits, comparisonFits}
-use Rattle.solver.proofs.Lists.{any-append, all-append, not-or}
-use Rattle.solver.proofs.Comparisons.{not-and, opposites-hold}
+use Rattle.solver.proofs.Comparisons.{opposites-hold}
 
 -- ---- The conditions
 

@@ -7,13 +7,13 @@ use lib.ListN.{length, take, drop}
 use lib.Seq.{getD-take}
 use lib.IntN.{pos}
 use lib.Dec.{T, eqb}
+use Rattle.base.specs.Lists.{anyOf, allOf}
+use Rattle.base.proofs.Lists.{all-has}
 use Rattle.words.specs.Compare.{eqZ}
-use Rattle.model.specs.Lists.{anyOf, allOf}
 use Rattle.model.specs.Tables.{Row, Condition, Expression, Job, tableOf, uses, value, outputsOf, meets}
 use Rattle.model.specs.WellFormed.{inScope, wellFormed}
 use Rattle.model.specs.Rows.{someRow, sameRow}
 use Rattle.model.specs.Verdict.{firstKind, columns, meetsQuery, alikeInExtract, tablesDiffer, kind1, witness2, kind2, witness3, kind3, witness4, kind4, kindOf, unfixing, fixed, listingOf}
-use Rattle.model.proofs.Lists.{all-has}
 use Rattle.model.proofs.Scope.{same-meets, same-outputs}
 use Rattle.solver.specs.Solver.{comparisonFits}
 use Rattle.solver.proofs.Formed.{scope-declared, Taken, outputs-declared, JobTaken, job-taken}

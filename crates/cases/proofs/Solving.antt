@@ -8,17 +8,16 @@ use lib.ListN.{length, take, drop, length-append}
 use lib.Seq.{take-at, drop-at}
 use lib.Dec.{T}
 use mir.Facts.{yes-and}
-use Rattle.words.proofs.Tests.{same-test}
-use Rattle.model.specs.Lists.{anyOf, allOf}
+use Rattle.base.specs.Lists.{anyOf, allOf}
+use Rattle.base.proofs.Lists.{any-has, has-any, pairwise-length, pairwise-append, pairwise-split, all-append}
+use Rattle.base.proofs.Tests.{same-test}
 use Rattle.model.specs.Tables.{Bounds, Row, Clause, Condition, inside, within, clauseHolds}
 use Rattle.model.specs.Rows.{someRow, twoRows}
 use Rattle.model.specs.Least.{leastRow}
-use Rattle.model.proofs.Lists.{any-has, has-any, pairwise-length, pairwise-append, pairwise-split}
 use Rattle.model.proofs.Rows.{some-has, has-some, two-has, has-two}
 use Rattle.model.proofs.Theorems.{condition-holds, least-none, least-some}
 use Rattle.solver.specs.Solver.{boundsFit, comparisonFits, solvable, solution}
 use Rattle.solver.proofs.Theorems.{least-solution}
-use Rattle.solver.proofs.Lists.{all-append}
 use Rattle.cases.proofs.Conditions.{Says}
 
 abbrev found : Option Row → Bool

@@ -4,15 +4,18 @@ use mathlib.Core.Path.{_≡_, refl, sym, ap, _∙_}
 use mathlib.Core.Bool.{Bool, true, false, not, _&&_}
 use mathlib.Core.List.{List, [], _∷_, List·Memᴰ·head}
 use mathlib.Core.Option.{Option, none, some}
-use lib.ListN.{length}
+use Prim.Native.Nat.{ℕ, suc, _-_, _≤_}
+use native.Mathlib.Omega.{arith}
+use lib.ListN.{length, getD}
 use lib.Dec.{T, T-not, eqb, eqb→eq, ltb, ltb→lt}
 use mir.Facts.{and-yes}
-use Rattle.model.specs.Lists.{_∈_}
+use Rattle.base.specs.Lists.{_∈_, anyOf, allOf, tabulate}
+use Rattle.base.proofs.Lists.{any-has, all-has}
+use Rattle.base.proofs.Places.{all-at, tabulate-length, tabulate-at}
 use Rattle.model.specs.Tables.{Row, OutputRow, Job, Database, WithinBounds, uses}
 use Rattle.model.specs.WellFormed.{expressionFormed, structured, conditionLimited, limited, wellFormed}
 use Rattle.model.specs.Rows.{someRow, sameRow}
 use Rattle.model.specs.Verdict.{usesOther, columns, meetsQuery, tablesDiffer, queryRows}
-use Rattle.model.proofs.Lists.{all-has}
 use Rattle.model.proofs.Rows.{has-some, same-row-is}
 use Rattle.model.proofs.Scope.{rows-are}
 use Rattle.zone.specs.Matrix.{matrix}
@@ -21,7 +24,7 @@ use Rattle.solver.specs.Comparisons.{constraintsOf}
 use Rattle.solver.specs.Solver.{solvable, boxOf, imposedBy, imposed, zoneOf, solution}
 use Rattle.solver.proofs.Formed.{JobTaken, job-taken}
 use Rattle.solver.proofs.Theorems.{least-solution}
-use Rattle.cases.specs.Cases.{Case, kind, listing, noRows, least, Holds, cases}
+use Rattle.cases.specs.Cases.{Statement, kind, listing, noRows, least, Holds, Entry, cases}
 use Rattle.cases.proofs.Solving.{someSolution}
 use Rattle.cases.proofs.Decide.{kindBySolver, listingBySolver, met-by-solver, kind-by-solver, listing-by-solver}
 
@@ -33,7 +36,7 @@ sameFound none (some s) = false
 sameFound (some r) none = false
 sameFound (some r) (some s) = sameRow r s
 
-unfoldable passes : Case → Bool
+unfoldable passes : Statement → Bool
 unfolding wellFormed structured limited expressionFormed conditionLimited uses kindBySolver listingBySolver tablesDiffer usesOther
 passes (kind j k) = wellFormed j && eqb (kindBySolver j) k
 passes (listing j c l) = wellFormed j && ltb c (length (columns j)) && eqb (listingBySolver j c) l
@@ -59,7 +62,7 @@ never-met j taken never d w = go (queryRows j d) (λ o m.
     go [] h = refl
     go (o ∷ os) h = absurd (h o (List·Memᴰ·head refl))
 
-passing-holds : (c : Case) → T (passes c) → Holds c
+passing-holds : (s : Statement) → T (passes s) → Holds s
 unfolding passes
 passing-holds (kind j k) t =
     let (w, e) = and-yes (wellFormed j) (eqb (kindBySolver j) k) t in
@@ -78,6 +81,17 @@ passing-holds (least bs ks o) t =
 
 -- ---- The theorem: every entry passes, which is computed
 
-pub cases-hold : (c : Case) → c ∈ cases → Holds c
+pub cases-hold : (e : Entry) → e ∈ cases → Holds (e .states)
 unfolding cases passes solvable solution zoneOf boxOf imposedBy imposed constraintsOf boxed constrained allows tightened leastOf matrix
-cases-hold c m = passing-holds c (all-has passes m tt)
+cases-hold e m = passing-holds (e .states) (all-has (λ e. passes (e .states)) m tt)
+
+-- none of 1 to 15 is left out
+pub cases-all : (n : ℕ) → 1 ≤ n → n ≤ 15 → (e : Entry) × (e ∈ cases) × (e .number ≡ n)
+unfolding cases
+cases-all n low high =
+    let here : ℕ → Bool = λ i. anyOf (λ e. eqb (e .number) i) cases in
+    let last : suc (n - 1) ≡ n = omega arith in
+    let all : T (allOf here (tabulate 15 suc)) = tt in
+    let there : T (here (getD (tabulate 15 suc) (n - 1) 0)) = all-at here (tabulate 15 suc) (n - 1) 0 all (omega (arith, tabulate-length 15 suc)) in
+    let (e, m, h) = any-has (λ e. eqb (e .number) n) cases (rw (tabulate-at 15 suc (n - 1) 0 (omega arith), last) at there) in
+    (e, m, eqb→eq (e .number) n h)

@@ -14,22 +14,27 @@ use Rattle.model.specs.Verdict.{columns, kindOf, listingOf, queryRows}
 
 -- ---- What an entry states
 
-pub data Case : Type 0 where
+pub data Statement : Type 0 where
   -- the kind of a job
-  kind : Job → ℕ → Case
+  kind : Job → ℕ → Statement
   -- the listing of one of its columns
-  listing : Job → ℕ → ℕ → Case
+  listing : Job → ℕ → ℕ → Statement
   -- its query has no row on any database
-  noRows : Job → Case
+  noRows : Job → Statement
   -- the least row that meets a list of comparisons, or that there is none
-  least : List Bounds → List Comparison → Option Row → Case
+  least : List Bounds → List Comparison → Option Row → Statement
 
 -- of a job also that it is well formed, as all that reading accepts are
-abbrev pub Holds : Case → Type 0
+abbrev pub Holds : Statement → Type 0
 Holds (kind j k) = T (wellFormed j) × (kindOf j ≡ k)
 Holds (listing j c l) = T (wellFormed j) × (c < length (columns j)) × (listingOf j c ≡ l)
 Holds (noRows j) = T (wellFormed j) × ((d : Database) → WithinBounds (j .tables) d → queryRows j d ≡ [])
 Holds (least bs ks o) = leastRow bs ks ≡ o
+
+-- an entry of the table: the number of a case, and something that it states
+pub record Entry : Type 0 where
+  pub number : ℕ
+  pub states : Statement
 
 -- ---- How jobs and lists are written down
 
@@ -129,40 +134,43 @@ section4 =
 
 -- ---- The table
 
-unfoldable pub cases : List Case
+abbrev case : ℕ → Statement → Entry
+case n s = record { number = n; states = s }
+
+unfoldable pub cases : List Entry
 cases =
-    -- 1: what the query tests is stored
-    kind (job (abc 9) (over0 (A ∷ B ∷ []) all) (over0 (A ∷ []) (one (toNumber B more 5 ∷ [])))) 0
-    -- 2: B is tested further than by the extract, and isn't stored
-    ∷ kind (job2 10) 3
-    -- 3: B is tested as by the extract
-    ∷ kind (job2 5) 0
-    -- 4: B is wanted, and isn't stored
-    ∷ kind (job4 (between 0 9)) 4
-    -- 5: B has one value
-    ∷ kind (job4 (between 7 7)) 0
-    -- 6: the query wants a row with B 6, which the extract doesn't keep
-    ∷ kind (job (abc 9) (over0 (A ∷ []) (one (toNumber B more 6 ∷ []))) (over0 (A ∷ []) (one (toNumber B more 5 ∷ [])))) 2
-    -- 7: the same rows, in other words
-    ∷ kind (job (abc 9) (over0 (A ∷ []) (one (toNumber B more 5 ∷ []))) (over0 (A ∷ []) (one (toNumber B atLeast 6 ∷ [])))) 0
-    -- 8: other tables, but no A is that high
-    ∷ kind (job8 9) 0
-    ∷ noRows (job8 9)
-    -- 9: B is known where the query wants it, and not with A 2
-    ∷ kind job9 0
-    ∷ listing job9 B 3
-    -- 10: other tables
-    ∷ kind (job8 8) 1
-    -- 11: "equal" doesn't undo what stands before it
-    ∷ least (abc 9) (toNumber A more 7 ∷ toNumber A equal 5 ∷ []) none
-    -- 12: t, x, z and y; and with one comparison more
-    ∷ least txzy section4 (some (pos 0 ∷ pos 11 ∷ pos 16 ∷ pos 17 ∷ []))
-    ∷ least txzy (toNumber t more 20 ∷ section4) none
-    -- 13: a cycle
-    ∷ least (abc 9) (toColumn A less B ∷ toColumn B less A ∷ []) none
-    -- 14: C, which isn't compared, at its lo; and no room for three
-    ∷ least (abc 1) (toColumn A less B ∷ []) (some (pos 0 ∷ pos 1 ∷ pos 0 ∷ []))
-    ∷ least (abc 1) (toColumn A less B ∷ toColumn B less C ∷ []) none
-    -- 15: B and C aren't stored, and change together
-    ∷ kind (job (abc 9) (over0 (A ∷ []) (one (toColumn B equal C ∷ []))) (over0 (A ∷ []) (one (toNumber B equal 0 ∷ toColumn B equal C ∷ [])))) 3
+    -- what the query tests is stored
+    case 1 (kind (job (abc 9) (over0 (A ∷ B ∷ []) all) (over0 (A ∷ []) (one (toNumber B more 5 ∷ [])))) 0)
+    -- B is tested further than by the extract, and isn't stored
+    ∷ case 2 (kind (job2 10) 3)
+    -- B is tested as by the extract
+    ∷ case 3 (kind (job2 5) 0)
+    -- B is wanted, and isn't stored
+    ∷ case 4 (kind (job4 (between 0 9)) 4)
+    -- B has one value
+    ∷ case 5 (kind (job4 (between 7 7)) 0)
+    -- the query wants a row with B 6, which the extract doesn't keep
+    ∷ case 6 (kind (job (abc 9) (over0 (A ∷ []) (one (toNumber B more 6 ∷ []))) (over0 (A ∷ []) (one (toNumber B more 5 ∷ [])))) 2)
+    -- the same rows, in other words
+    ∷ case 7 (kind (job (abc 9) (over0 (A ∷ []) (one (toNumber B more 5 ∷ []))) (over0 (A ∷ []) (one (toNumber B atLeast 6 ∷ [])))) 0)
+    -- other tables, but no A is that high
+    ∷ case 8 (kind (job8 9) 0)
+    ∷ case 8 (noRows (job8 9))
+    -- B is known where the query wants it, and not with A 2
+    ∷ case 9 (kind job9 0)
+    ∷ case 9 (listing job9 B 3)
+    -- other tables
+    ∷ case 10 (kind (job8 8) 1)
+    -- "equal" doesn't undo what stands before it
+    ∷ case 11 (least (abc 9) (toNumber A more 7 ∷ toNumber A equal 5 ∷ []) none)
+    -- t, x, z and y; and with one comparison more
+    ∷ case 12 (least txzy section4 (some (pos 0 ∷ pos 11 ∷ pos 16 ∷ pos 17 ∷ [])))
+    ∷ case 12 (least txzy (toNumber t more 20 ∷ section4) none)
+    -- a cycle
+    ∷ case 13 (least (abc 9) (toColumn A less B ∷ toColumn B less A ∷ []) none)
+    -- C, which isn't compared, at its lo; and no room for three
+    ∷ case 14 (least (abc 1) (toColumn A less B ∷ []) (some (pos 0 ∷ pos 1 ∷ pos 0 ∷ [])))
+    ∷ case 14 (least (abc 1) (toColumn A less B ∷ toColumn B less C ∷ []) none)
+    -- B and C aren't stored, and change together
+    ∷ case 15 (kind (job (abc 9) (over0 (A ∷ []) (one (toColumn B equal C ∷ []))) (over0 (A ∷ []) (one (toNumber B equal 0 ∷ toColumn B equal C ∷ [])))) 3)
     ∷ []

@@ -12,18 +12,18 @@ use lib.IntN.{ℤ, pos}
 use lib.Dec.{T, eqb, ltb}
 use mir.Facts.{and-yes}
 use borrow.Author.Tests.{lt-ltb, le-ltb, le-leb, lt-leb, ltb-true}
-use Rattle.model.specs.Lists.{anyOf, isEmpty}
+use Rattle.base.specs.Lists.{anyOf, isEmpty, lastOf, inLast}
+use Rattle.base.proofs.Tests.{T-is}
 use Rattle.model.specs.Tables as model
 use Rattle.model.specs.Tables.{Bounds, Table, column, number, columnsOf}
 use Rattle.model.specs.Coded.{opAt, numberOfOp}
 use Rattle.model.specs.WellFormed.{inScope, inRange}
-use Rattle.model.proofs.Lists.{T-is}
 use Rattle.job.specs.declared.Clause.{Clause}
 use Rattle.job.specs.declared.Expression.{Expression}
 use Rattle.job.specs.declared.Job.{Job}
 use Rattle.job.specs.Meaning.{columnRecord, comparisonRecord, expressionRecord, recordOf, meaningOf}
 use Rattle.layout.specs.Commands.{addTable, addColumn, mark, useTable, addOutput, addClause, addComparison}
-use Rattle.layout.specs.Reading.{current, lastOf, aboveLast, inLast, withCondition, withCurrent}
+use Rattle.layout.specs.Reading.{current, aboveLast, withCondition, withCurrent}
 use Rattle.layout.proofs.Growing.{either, among}
 use Rattle.codec.specs.declared.Cursor.{Cursor}
 use Rattle.codec.specs.declared.Addition.the-variants.{Table as TableAdded, Column as ColumnAdded, Nothing, Used, Output, Clause as ClauseAdded, Compared}

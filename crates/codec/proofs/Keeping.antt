@@ -3,11 +3,12 @@ use mathlib.Core.Path.{_≡_, sym, ap, _∙_}
 use Prim.Native.Nat.{_≤_}
 use native.Mathlib.Omega.{arith}
 use lib.ListN.{length}
+use Rattle.base.specs.Lists.{lastOf}
 use Rattle.model.specs.Tables.{columnsOf}
 use Rattle.job.specs.declared.Expression.{Expression}
 use Rattle.job.specs.declared.Job.{Job}
 use Rattle.job.specs.Meaning.{expressionRecord, recordOf, meaningOf}
-use Rattle.layout.specs.Reading.{current, lastOf}
+use Rattle.layout.specs.Reading.{current}
 use Rattle.codec.specs.declared.Cursor.{Cursor}
 use Rattle.codec.specs.Answers.{stateOf}
 use Rattle.codec.specs.Uses.{currentIn, whole, lastSize, Held}

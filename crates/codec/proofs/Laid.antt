@@ -7,17 +7,18 @@ use native.Mathlib.Nat.{add-zero, zero-add}
 use native.Mathlib.Omega.{arith}
 use lib.ListN.{length, getD, set, length-append, length-map}
 use lib.Dec.{T}
-use Rattle.model.specs.Lists.{isEmpty}
+use Rattle.base.specs.Lists.{isEmpty, lastOf, inLast}
+use Rattle.base.specs.Arrays.{padded}
+use Rattle.base.proofs.Lists.{map-snoc, length-last, concat-more, concat-last}
+use Rattle.base.proofs.Arrays.{getD-padded, set-padded, padded-more, padded-same}
 use Rattle.model.specs.Tables as model
 use Rattle.model.specs.Tables.{Bounds, Table, columnsOf}
 use Rattle.job.specs.declared.Expression.{Expression}
 use Rattle.job.specs.declared.Job.{Job}
-use Rattle.job.specs.Record.{padded, noColumn, noComparison, noClause}
+use Rattle.job.specs.Record.{noColumn, noComparison, noClause}
 use Rattle.job.specs.Meaning.{columnRecord, columnRecords, comparisonRecord, clauseRecord, expressionRecord, recordOf}
 use Rattle.job.proofs.Meaning.{columns-length}
-use Rattle.job.proofs.Padded.{getD-padded, set-padded, padded-more, padded-same, map-more}
-use Rattle.layout.specs.Reading.{lastOf, inLast, withUsed, withOutput, withCondition, withTables, withCurrent}
-use Rattle.layout.proofs.Growing.{length-last, concat-more, concat-last}
+use Rattle.layout.specs.Reading.{withUsed, withOutput, withCondition, withTables, withCurrent}
 use Rattle.codec.specs.Uses.{currentIn, placed, tableMore, columnMore, usedMore, outputMore, clauseMore, withComparison, comparisonMore, lastClause}
 
 -- ---- the last of some lists
@@ -48,7 +49,7 @@ columns-none t (bs ∷ ts) = rw (columns-none (suc t) ts)
 columns-last : (t n : ℕ) (ts : List Table) (b : Bounds) → suc n ≡ length ts
     → columnRecords t (inLast ts b) ≡ columnRecords t ts ++ columnRecord (t + n) b ∷ []
 columns-last t n [] b e = absurd (omega arith)
-columns-last t zero (bs ∷ []) b e = rw (map-more (columnRecord t) bs b, append-nil, append-nil, add-zero)
+columns-last t zero (bs ∷ []) b e = rw (map-snoc (columnRecord t) bs b, append-nil, append-nil, add-zero)
 columns-last t (suc n) (bs ∷ []) b e = absurd (omega arith)
 columns-last t zero (bs ∷ cs ∷ ts) b e = absurd (omega arith)
 columns-last t (suc n) (bs ∷ cs ∷ ts) b e =
@@ -91,7 +92,7 @@ unfolding expressionRecord
 clause-laid e h =
     rw (
       length-append (e .condition) ([] ∷ []),
-      map-more clauseRecord (e .condition) [],
+      map-snoc clauseRecord (e .condition) [],
       padded-same 4 noClause (map clauseRecord (e .condition)) (rw (length-map (e .condition) clauseRecord) h),
     )
 
@@ -100,7 +101,7 @@ longer-laid : (c : model.Clause) (k : model.Comparison) → length c < 6
 longer-laid c k h =
     rw (
       length-append c (k ∷ []),
-      map-more comparisonRecord c k,
+      map-snoc comparisonRecord c k,
       ← padded-more 6 noComparison (map comparisonRecord c) (comparisonRecord k) (rw (length-map c comparisonRecord) h),
       length-map c comparisonRecord,
     )

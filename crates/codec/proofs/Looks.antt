@@ -8,19 +8,19 @@ use native.Mathlib.Omega.{arith}
 use lib.ListN.{length, getD, set, take, List·getD-map}
 use lib.Dec.{eqb, ltb}
 use borrow.Author.Tests.{eq-eqb, ne-eqb, ltb-true}
-use Rattle.model.specs.Lists.{anyOf}
+use Rattle.base.specs.Lists.{anyOf, lastOf}
+use Rattle.base.specs.Arrays.{padded}
+use Rattle.base.proofs.Arrays.{take-padded, getD-padded}
 use Rattle.model.specs.Tables as model
 use Rattle.model.specs.Tables.{columnsOf, tableOf, uses}
 use Rattle.model.specs.WellFormed.{inScope}
 use Rattle.job.specs.declared.Clause.{Clause}
 use Rattle.job.specs.declared.Column.{Column}
 use Rattle.job.specs.declared.Job.{Job}
-use Rattle.job.specs.Record.{padded, noColumn}
+use Rattle.job.specs.Record.{noColumn}
 use Rattle.job.specs.Meaning.{columnRecords, expressionRecord, recordOf}
-use Rattle.job.proofs.Meaning.{take-padded}
-use Rattle.job.proofs.Padded.{getD-padded}
 use Rattle.job.proofs.Columns.{column-of}
-use Rattle.layout.specs.Reading.{lastOf, aboveLast}
+use Rattle.layout.specs.Reading.{aboveLast}
 use Rattle.codec.specs.Uses.{tablesIn, lastSize, scopedIn, aboveIn}
 use Rattle.codec.proofs.Laid.{last-laid}
 

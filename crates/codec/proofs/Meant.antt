@@ -5,10 +5,10 @@ use mathlib.Core.List.{List, [], _∷_, _++_, map}
 use Prim.Native.Nat.{ℕ}
 use lib.ListN.{take}
 use lib.Dec.{eqb}
+use Rattle.base.specs.Lists.{filter, flatMap}
+use Rattle.base.proofs.Lists.{flatMap-append}
 use Rattle.words.specs.Word.{encoded}
-use Rattle.model.specs.Lists.{filter, flatMap}
 use Rattle.model.specs.Coded.{numberOfOp}
-use Rattle.model.proofs.Lists.{flatMap-append}
 use Rattle.job.specs.declared.Column.{Column}
 use Rattle.job.specs.declared.Comparison.{Comparison}
 use Rattle.job.specs.declared.Clause.{Clause}

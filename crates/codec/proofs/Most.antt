@@ -8,8 +8,8 @@ use native.Mathlib.Omega.{arith}
 use lib.ListN.{length, take, drop, length-append, length-take}
 use lib.Dec.{eqb}
 use borrow.Author.Tests.{ne-eqb}
+use Rattle.base.specs.Lists.{flatMap}
 use Rattle.words.specs.Word.{encoded}
-use Rattle.model.specs.Lists.{flatMap}
 use Rattle.model.specs.Coded.{opAt, numberOfOp, sideOf}
 use Rattle.job.specs.declared.Column.{Column}
 use Rattle.job.specs.declared.Comparison.{Comparison}

@@ -11,10 +11,10 @@ use lib.IntN.{ℤ}
 use lib.Signed.{mag}
 use mir.Syntax.{w32}
 use mir.Val.{toZ, ofZ}
+use Rattle.base.specs.Lists.{flatMap}
+use Rattle.base.proofs.Lists.{flatMap-append}
 use Rattle.words.specs.Word.{encoded, withValue}
 use Rattle.words.proofs.Stored.{stored}
-use Rattle.model.specs.Lists.{flatMap}
-use Rattle.model.proofs.Lists.{flatMap-append}
 use Rattle.codec.specs.Puts.{Room, Puts}
 
 -- ---- two parts

@@ -9,13 +9,13 @@ use native.Mathlib.Omega.{arith}
 use lib.ListN.{length}
 use lib.Dec.{eqb}
 use borrow.Author.Tests.{eq-eqb, ne-eqb}
+use Rattle.layout.specs.Sound.{Sound}
 use Rattle.job.specs.declared.Expression.{Expression}
 use Rattle.job.specs.declared.Job.{Job}
 use Rattle.job.specs.Record.{noExpression, noJob}
 use Rattle.job.specs.Meaning.{expressionOf, expressionRecord, meaningOf, recordOf}
 use Rattle.job.proofs.Meaning.{meaning-record}
 use Rattle.layout.specs.Reading.{State, atStart, Step, next, stop, stepOf, ended, onward, readFrom, starts, readOf}
-use Rattle.layout.proofs.Sound.{Sound}
 use Rattle.layout.proofs.Keeps.{start-sound, step-sound}
 use Rattle.codec.specs.declared.Cursor.{Cursor}
 use Rattle.codec.specs.declared.Addition.{Addition}

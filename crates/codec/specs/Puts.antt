@@ -6,8 +6,8 @@ use Prim.Native.Nat.{ℕ, _+_, _≤_}
 use lib.ListN.{length, take}
 use lib.Seq.{sets}
 use lib.Dec.{eqb}
+use Rattle.base.specs.Lists.{flatMap}
 use Rattle.words.specs.Word.{encoded}
-use Rattle.model.specs.Lists.{flatMap}
 use Rattle.model.specs.Coded.{opAt, numberOfOp, sideOf}
 use Rattle.job.specs.declared.Column.{Column}
 use Rattle.job.specs.declared.Comparison.{Comparison}

@@ -8,7 +8,8 @@ use lib.ListN.{length, getD, set, take}
 use lib.IntN.{ℤ}
 use lib.Signed.{leZ}
 use lib.Dec.{T, eqb, ltb}
-use Rattle.model.specs.Lists.{anyOf}
+use Rattle.layout.specs.Sound.{Sound}
+use Rattle.base.specs.Lists.{anyOf}
 use Rattle.model.specs.WellFormed.{inRange}
 use Rattle.job.specs.declared.Column.{Column}
 use Rattle.job.specs.declared.Comparison.{Comparison}
@@ -20,7 +21,6 @@ use Rattle.job.specs.Meaning.{meaningOf, recordOf}
 use Rattle.layout.specs.declared.Command.{Command}
 use Rattle.layout.specs.Commands.{Entry}
 use Rattle.layout.specs.Reading.{State, Step, current, follows, hasRoom, inRanges, opKnown, declared, isNew, added}
-use Rattle.layout.proofs.Sound.{Sound}
 use Rattle.codec.specs.declared.Cursor.{Cursor}
 use Rattle.codec.specs.declared.Addition.{Addition}
 use Rattle.codec.specs.declared.Addition.the-variants.{Table as TableAdded, Column as ColumnAdded, Nothing, Used, Output, Clause as ClauseAdded, Compared}

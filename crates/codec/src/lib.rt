@@ -5,12 +5,12 @@ ghost use mathlib.Core.List.{[], _∷_, _++_};
 ghost use Prim.Native.Nat.{_+_, _≤_, _<_, min};
 ghost use lib.ListN.{length, getD, take, drop};
 ghost use lib.Dec.{eqb, leb};
+ghost use Rattle.base.specs.Lists.{anyOf};
 ghost use Rattle.words.specs.Word.{encoded};
-ghost use Rattle.model.specs.Lists.{anyOf};
 ghost use Rattle.model.specs.WellFormed.{inRange};
 ghost use Rattle.model.specs.Coded.{opAt, numberOfOp};
 ghost use Rattle.job.specs.Meaning.{meaningOf};
-ghost use Rattle.layout.specs.declared.Command.the-variants.{NextColumn, TableUsed, OutputColumn, NextClause, NumberCompared, ColumnCompared};
+ghost use Rattle.layout.specs.declared.Command.the-variants.{NextColumn, TableUsed, OutputColumn, NumberCompared, ColumnCompared};
 ghost use Rattle.layout.specs.Commands.{commandOf, operands, ending, before, entryAt, startBytes};
 ghost use Rattle.layout.specs.Reading.{starts, hasRoom, taken, stepOf, readOf};
 ghost use Rattle.layout.specs.Writing.{jobBytes};
@@ -117,7 +117,7 @@ fn is_in_scope(tables: &[u8; Job::COLUMNS], job: Job, e: Expression, c: u8) -> b
         return false;
     }
     let used = e.used;
-    job::is_among(&used, e.tables, tables[k])
+    base::is_among(&used, e.tables, tables[k])
 }
 
 // Whether table t comes after the used tables.
@@ -200,15 +200,15 @@ fn follows(c: Command, last: u8, in_query: bool) -> bool
     ensures { λ r. ⌜ r ≡ anyOf (eqb last) (before in_query c) ⌝ }
 {
     match c {
-        Command::NextTable => job::is_among(&[0, 0x11], 2, last),
-        Command::NextColumn => job::is_among(&[0x10, 0x11], 2, last),
-        Command::ExtractBegins => job::is_among(&[0x11], 1, last),
+        Command::NextTable => base::is_among(&[0, 0x11], 2, last),
+        Command::NextColumn => base::is_among(&[0x10, 0x11], 2, last),
+        Command::ExtractBegins => base::is_among(&[0x11], 1, last),
         Command::QueryBegins => if in_query { false } else { is_ending(last) },
-        Command::TableUsed => job::is_among(&[0x20, 0x21, 0x30], 3, last),
-        Command::OutputColumn => job::is_among(&[0x30, 0x31], 2, last),
+        Command::TableUsed => base::is_among(&[0x20, 0x21, 0x30], 3, last),
+        Command::OutputColumn => base::is_among(&[0x30, 0x31], 2, last),
         Command::NextClause => is_ending(last),
-        Command::NumberCompared => job::is_among(&[0x40, 0x41, 0x42], 3, last),
-        Command::ColumnCompared => job::is_among(&[0x40, 0x41, 0x42], 3, last),
+        Command::NumberCompared => base::is_among(&[0x40, 0x41, 0x42], 3, last),
+        Command::ColumnCompared => base::is_among(&[0x40, 0x41, 0x42], 3, last),
         Command::End => if in_query { is_ending(last) } else { false },
     }
 }
@@ -217,7 +217,7 @@ fn follows(c: Command, last: u8, in_query: bool) -> bool
 fn is_ending(last: u8) -> bool
     ensures { λ r. ⌜ r ≡ anyOf (eqb last) ending ⌝ }
 {
-    job::is_among(&[0x31, 0x40, 0x41, 0x42], 4, last)
+    base::is_among(&[0x31, 0x40, 0x41, 0x42], 4, last)
 }
 
 // Whether the bytes begin as a job's do.
@@ -350,7 +350,7 @@ fn output_column(
         return Judged::Fault(9);
     }
     let outputs = e.outputs;
-    if job::is_among(&outputs, e.width, c) {
+    if base::is_among(&outputs, e.width, c) {
         return Judged::Fault(10);
     }
     Judged::Added(Addition::Output(c))

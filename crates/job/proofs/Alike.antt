@@ -1,20 +1,13 @@
 -- Tests of two records, one after another. Assumes nothing.
 use mathlib.Core.Path.{_≡_, sym, _∙_}
-use mathlib.Core.Bool.{Bool, true, false, not, _&&_}
+use mathlib.Core.Bool.{Bool, true, false, not}
 use mathlib.Core.List.{List}
 use Prim.Native.Nat.{ℕ, _+_, _<_, _≤_}
 use native.Mathlib.Omega.{arith}
 use lib.ListN.{length, getD, drop}
 use borrow.Author.Tests.{not-true, not-false}
-use Rattle.model.specs.Lists.{pairwise}
-use Rattle.model.proofs.Turns.{pairs-fail, pairs-more, pairs-done}
-
--- a test that was answered by r
-pub fails : {r a : Bool} (b : Bool) → r ≡ a → not r ≡ true → false ≡ (a && b)
-fails {r} {a} b e h = let f : a ≡ false = sym e ∙ not-true r h in rw f
-
-pub passes : {r a b q : Bool} → r ≡ a → not r ≡ false → q ≡ b → q ≡ (a && b)
-passes {r} {a} e h f = let t : a ≡ true = sym e ∙ not-false r h in rw t f
+use Rattle.base.specs.Lists.{pairwise}
+use Rattle.base.proofs.Turns.{pairs-fail, pairs-more, pairs-done}
 
 -- arrays of n entries, of which those from i on are left
 module _ {A : Type 0} (p : A → A → Bool) (d : A) (n : ℕ) (xs ys : List A) (l : length xs ≡ n) (m : length ys ≡ n) (i : ℕ)

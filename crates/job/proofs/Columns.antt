@@ -9,13 +9,14 @@ use lib.ListN.{length, getD, take, length-append, length-map, List·getD-append}
 use lib.Seq.{getD-append-add}
 use lib.Dec.{ltb}
 use borrow.Author.Tests.{ltb-true, ltb-false}
+use Rattle.base.specs.Arrays.{padded}
+use Rattle.base.proofs.Arrays.{take-padded, getD-padded}
 use Rattle.model.specs.Tables.{Table, columnsOf, tableOf}
 use Rattle.job.specs.declared.Column.{Column}
 use Rattle.job.specs.declared.Job.{Job}
-use Rattle.job.specs.Record.{padded, noColumn}
+use Rattle.job.specs.Record.{noColumn}
 use Rattle.job.specs.Meaning.{boundsOf, columnRecord, columnRecords, expressionRecord, meaningOf, recordOf}
-use Rattle.job.proofs.Meaning.{take-padded, columns-length}
-use Rattle.job.proofs.Padded.{getD-padded}
+use Rattle.job.proofs.Meaning.{columns-length}
 
 -- ---- tables
 column-here : (t : ℕ) (bs : Table) (c : ℕ) (d : Column) → c < length bs → getD (map (columnRecord t) bs) c d .table ≡ t

@@ -7,16 +7,17 @@ use native.Mathlib.Omega.{arith}
 use lib.ListN.{length, getD, take, replicate, length-append, length-map, length-take}
 use lib.Dec.{ltb}
 use borrow.Author.Tests.{ltb-false}
+use Rattle.base.specs.Arrays.{padded}
+use Rattle.base.proofs.Arrays.{padded-each}
 use Rattle.model.specs.Tables as model
 use Rattle.model.specs.Tables.{Table, columnsOf, tableOf}
 use Rattle.job.specs.declared.Column.{Column}
 use Rattle.job.specs.declared.Clause.{Clause}
 use Rattle.job.specs.declared.Expression.{Expression}
 use Rattle.job.specs.declared.Job.{Job}
-use Rattle.job.specs.Record.{padded, noColumn, noComparison, noClause}
+use Rattle.job.specs.Record.{noColumn, noComparison, noClause}
 use Rattle.job.specs.Meaning.{tableIn, tableNumbers, comparisonRecord, clauseRecord, columnRecords, expressionRecord, meaningOf, recordOf}
 use Rattle.job.proofs.Meaning.{columns-length}
-use Rattle.job.proofs.Padded.{padded-each}
 use Rattle.job.proofs.Columns.{tables-are, width-is, columns-are, table-is}
 use Rattle.job.proofs.Records.{Sixes, SizedExpression, Sized}
 

@@ -7,10 +7,11 @@ use lib.IntN.{ℤ}
 use lib.Dec.{T, eqb, eqb→eq}
 use mir.Facts.{and-yes}
 use borrow.Author.Tests.{eq-eqb}
+use Rattle.base.specs.Lists.{pairwise}
+use Rattle.base.proofs.Lists.{pairwise-is}
+use Rattle.base.proofs.Tests.{T-is}
 use Rattle.words.specs.Compare.{eqZ}
 use Rattle.words.proofs.Order.{eqZ-is, eqZ-refl}
-use Rattle.model.specs.Lists.{pairwise}
-use Rattle.model.proofs.Lists.{T-is, pairwise-is}
 use Rattle.job.specs.declared.Column.{Column}
 use Rattle.job.specs.declared.Comparison.{Comparison}
 use Rattle.job.specs.declared.Clause.{Clause}

@@ -3,6 +3,5 @@ pub mod Alike
 pub mod Equal
 pub mod Tidy
 pub mod Records
-pub mod Padded
 pub mod Columns
 pub mod Counts

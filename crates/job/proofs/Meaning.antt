@@ -6,21 +6,15 @@ use Prim.Native.Nat.{ℕ, zero, suc, _+_, _<_, _≤_}
 use native.Mathlib.Omega.{arith}
 use native.Mathlib.Nat.{add-zero}
 use lib.ListN.{length, take, getD, length-append, length-map}
-use lib.Seq.{take-append-seam}
 use borrow.Author.Tests.{eq-eqb, ne-eqb}
+use Rattle.base.proofs.Lists.{map-back}
+use Rattle.base.proofs.Arrays.{take-padded}
 use Rattle.model.specs.Tables as model
 use Rattle.model.specs.Tables.{Table, columnsOf}
 use Rattle.model.proofs.Theorems.{op-number, side-number}
 use Rattle.job.specs.declared.Column.{Column}
-use Rattle.job.specs.Record.{padded, noComparison, noClause, noColumn}
+use Rattle.job.specs.Record.{noComparison, noClause, noColumn}
 use Rattle.job.specs.Meaning.{tableIn, tableNumbers, columnRecord, columnRecords, comparisonOf, comparisonRecord, clauseOf, clauseRecord, expressionOf, expressionRecord, meaningOf, recordOf}
-
-pub take-padded : {A : Type 0} (n : ℕ) (d : A) (l : List A) (k : ℕ) → k ≡ length l → take k (padded n d l) ≡ l
-take-padded n d l k e = rw e (take-append-seam l _)
-
-map-back : {A B : Type 0} (f : A → B) (g : B → A) → ((x : A) → g (f x) ≡ x) → (l : List A) → map g (map f l) ≡ l
-map-back f g e [] = refl
-map-back f g e (x ∷ l) = rw (e x, map-back f g e l)
 
 -- ---- tables
 pub columns-length : (k : ℕ) (ts : List Table) → length (columnRecords k ts) ≡ length (columnsOf ts)

@@ -1,22 +1,20 @@
 -- A job's record has zeros past each count. Assumes nothing.
-use mathlib.Core.Path.{_≡_, refl, sym}
+use mathlib.Core.Path.{refl, sym}
 use mathlib.Core.Logic.{⊎-elim}
-use mathlib.Core.List.{List, [], _∷_, map, List·Memᴰ·head, List·Memᴰ·tail, List·Memᴰ·not-nil, List·Memᴰ·append-cases}
+use mathlib.Core.List.{[], _∷_, map, List·Memᴰ·head, List·Memᴰ·tail, List·Memᴰ·not-nil, List·Memᴰ·append-cases}
 use Prim.Native.Nat.{ℕ, zero, suc, _-_}
 use lib.ListN.{length, replicate, length-map}
-use lib.Seq.{drop-append-seam}
-use Rattle.model.specs.Lists.{_∈_}
+use Rattle.base.proofs.Arrays.{drop-padded}
+use Rattle.base.specs.Lists.{_∈_}
+use Rattle.base.specs.Arrays.{EmptyPast}
 use Rattle.model.specs.Tables as model
 use Rattle.job.specs.declared.Clause.{Clause}
-use Rattle.job.specs.Record.{padded, noColumn, noComparison, noClause, EmptyPast, TidyExpression, Tidy}
+use Rattle.job.specs.Record.{noColumn, noComparison, noClause, TidyExpression, Tidy}
 use Rattle.job.specs.Meaning.{comparisonRecord, clauseRecord, expressionRecord, columnRecords, recordOf}
 use Rattle.job.proofs.Meaning.{columns-length}
 
-past : {A : Type 0} (n : ℕ) (d : A) (l : List A) (k : ℕ) → k ≡ length l → EmptyPast n d k (padded n d l)
-past n d l k e = rw e (drop-append-seam l (replicate (n - length l) d))
-
 clause-past : (c : model.Clause) → EmptyPast 6 noComparison (length c) (clauseRecord c .comparisons)
-clause-past c = past 6 noComparison (map comparisonRecord c) (length c) (sym (length-map c comparisonRecord))
+clause-past c = drop-padded 6 noComparison (map comparisonRecord c) (length c) (sym (length-map c comparisonRecord))
 
 -- a clause of an expression's record is a clause's record, or the empty one
 clauses-past : (cs : model.Condition) (c : Clause) → c ∈ map clauseRecord cs → EmptyPast 6 noComparison (c .size) (c .comparisons)
@@ -32,16 +30,16 @@ empty-past (suc n) c (List·Memᴰ·tail m) = empty-past n c m
 expression-tidy : (e : model.Expression) → TidyExpression (expressionRecord e)
 unfolding expressionRecord
 expression-tidy e = record {
-  used = past 4 0 (e .used) _ refl;
-  outputs = past 16 0 (e .outputs) _ refl;
-  clauses = past 4 noClause (map clauseRecord (e .condition)) _ (sym (length-map (e .condition) clauseRecord));
+  used = drop-padded 4 0 (e .used) _ refl;
+  outputs = drop-padded 16 0 (e .outputs) _ refl;
+  clauses = drop-padded 4 noClause (map clauseRecord (e .condition)) _ (sym (length-map (e .condition) clauseRecord));
   comparisons = λ c m. ⊎-elim (clauses-past (e .condition) c) (empty-past (4 - length (map clauseRecord (e .condition))) c) (List·Memᴰ·append-cases (map clauseRecord (e .condition)) m);
 }
 
 pub record-tidy : (j : model.Job) → Tidy (recordOf j)
 unfolding recordOf
 record-tidy j = record {
-  columns = past 16 noColumn (columnRecords 0 (j .tables)) _ (sym (columns-length 0 (j .tables)));
+  columns = drop-padded 16 noColumn (columnRecords 0 (j .tables)) _ (sym (columns-length 0 (j .tables)));
   extract = expression-tidy (j .extract);
   query = expression-tidy (j .query);
 }

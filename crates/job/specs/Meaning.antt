@@ -3,7 +3,8 @@ use mathlib.Core.List.{List, [], _∷_, _++_, map}
 use Prim.Native.Nat.{ℕ, suc}
 use lib.ListN.{length, take}
 use lib.Dec.{eqb}
-use Rattle.model.specs.Lists.{filter}
+use Rattle.base.specs.Lists.{filter}
+use Rattle.base.specs.Arrays.{padded}
 use Rattle.model.specs.Tables as model
 use Rattle.model.specs.Tables.{Bounds, Table, columnsOf}
 use Rattle.model.specs.Coded.{opAt, numberOfOp, sideOf, sideNumber, sideValue}
@@ -12,7 +13,7 @@ use Rattle.job.specs.declared.Comparison.{Comparison}
 use Rattle.job.specs.declared.Clause.{Clause}
 use Rattle.job.specs.declared.Expression.{Expression}
 use Rattle.job.specs.declared.Job.{Job}
-use Rattle.job.specs.Record.{padded, noColumn, noComparison, noClause}
+use Rattle.job.specs.Record.{noColumn, noComparison, noClause}
 
 -- ---- What a record means
 

@@ -1,19 +1,13 @@
 -- A record's parts with zeros throughout, and the arrays that lists are held in.
-use mathlib.Core.Path.{_≡_}
-use mathlib.Core.List.{List, _++_}
-use Prim.Native.Nat.{ℕ, _-_}
-use lib.ListN.{length, drop, replicate}
+use lib.ListN.{replicate}
 use lib.IntN.{pos}
-use Rattle.model.specs.Lists.{_∈_}
+use Rattle.base.specs.Arrays.{EmptyPast}
+use Rattle.base.specs.Lists.{_∈_}
 use Rattle.job.specs.declared.Column.{Column}
 use Rattle.job.specs.declared.Comparison.{Comparison}
 use Rattle.job.specs.declared.Clause.{Clause}
 use Rattle.job.specs.declared.Expression.{Expression}
 use Rattle.job.specs.declared.Job.{Job}
-
--- a list in an array of n entries: past its length, each is the empty one
-abbrev pub padded : {A : Type 0} → ℕ → A → List A → List A
-padded n empty l = l ++ replicate (n - length l) empty
 
 abbrev pub noColumn : Column
 noColumn = record { table = 0; lo = pos 0; hi = pos 0 }
@@ -31,9 +25,6 @@ abbrev pub noJob : Job
 noJob = record { tables = 0; width = 0; columns = replicate 16 noColumn; extract = noExpression; query = noExpression }
 
 -- ---- Entries past a count are zero
-
-abbrev pub EmptyPast : {A : Type 0} → ℕ → A → ℕ → List A → Type 0
-EmptyPast n empty k l = drop k l ≡ replicate (n - k) empty
 
 pub record TidyExpression (e : Expression) : Type 0 where
   pub used : EmptyPast 4 0 (e .tables) (e .used)

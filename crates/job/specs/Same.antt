@@ -1,8 +1,8 @@
 -- Whether two records are alike, entry by entry.
 use mathlib.Core.Bool.{Bool, _&&_}
 use lib.Dec.{eqb}
+use Rattle.base.specs.Lists.{pairwise}
 use Rattle.words.specs.Compare.{eqZ}
-use Rattle.model.specs.Lists.{pairwise}
 use Rattle.job.specs.declared.Column.{Column}
 use Rattle.job.specs.declared.Comparison.{Comparison}
 use Rattle.job.specs.declared.Clause.{Clause}

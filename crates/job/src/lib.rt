@@ -1,9 +1,8 @@
 // A job as a record of fixed size, passed by value. specs/Meaning.antt says which job of document 01 a record stands for.
 ghost use mathlib.Core.Path.{_≡_};
-ghost use Prim.Native.Nat.{_≤_};
-ghost use lib.ListN.{length, take};
+ghost use lib.ListN.{length};
 ghost use lib.Dec.{eqb};
-ghost use Rattle.model.specs.Lists.{anyOf, pairwise};
+ghost use Rattle.base.specs.Lists.{pairwise};
 ghost use Rattle.job.specs.Record.{noExpression, noJob};
 ghost use Rattle.job.specs.Same.{sameColumn, sameComparison, sameClause, sameExpression, sameJob};
 
@@ -98,21 +97,6 @@ fn no_expression() -> Expression
         size: 0,
         clauses: [clause; Job::CLAUSES],
     }
-}
-
-// Whether x is among the first n of a.
-pub fn is_among(a: &[u8], n: usize, x: u8) -> bool
-    requires { ⌜ n ≤ length (now a) ⌝ }
-    ensures { λ r. ⌜ r ≡ anyOf (eqb x) (take n (now (a .entry))) ⌝ }
-{
-    let mut i = 0;
-    while i < n {
-        if a[i] == x {
-            return true;
-        }
-        i += 1;
-    }
-    false
 }
 
 fn same_bytes<'a>(a: &'a [u8], b: &'a [u8]) -> bool

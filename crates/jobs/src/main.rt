@@ -14,12 +14,6 @@ use verdict::Database;
 ghost use Prim.Native.Nat.{_+_, _<_, _≤_};
 ghost use lib.ListN.{length};
 
-fn wide(b: u8) -> usize
-    ensures { λ r. ⌜ r < 256 ⌝ }
-{
-    b as usize
-}
-
 // The functions that answer with a bool say whether a further job may follow.
 fn put_head(number: u8, n: usize) -> bool {
     let head = [
@@ -108,7 +102,7 @@ fn next_job(s: &mut [u8]) -> bool
     if got < 2 {
         return false;
     }
-    let size = wide(head[0]) + wide(head[1]) * 256;
+    let size = base::wide(head[0]) + base::wide(head[1]) * 256;
     answer_job(&mut s[..size])
 }
 

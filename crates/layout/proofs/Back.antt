@@ -7,17 +7,19 @@ use native.Mathlib.Omega.{arith}
 use lib.ListN.{length, getD, take, drop, length-take, length-drop}
 use lib.Seq.{take-length, take-suc, drop-cons, drop-drop, take-add}
 use lib.Dec.{T, eqb, eqb→eq}
+use Rattle.layout.specs.Sound.{Sound}
+use Rattle.base.specs.Lists.{flatMap}
+use Rattle.base.specs.Bytes.{Bytes}
+use Rattle.base.proofs.Lists.{pairwise-is, flatMap-append}
+use Rattle.base.proofs.Bytes.{bytes-take, bytes-drop}
 use Rattle.words.specs.Word.{encoded, valueAt}
-use Rattle.words.proofs.Words.{Bytes, encode-decode, bytes-take, bytes-drop}
-use Rattle.model.specs.Lists.{flatMap}
+use Rattle.words.proofs.Words.{encode-decode}
 use Rattle.model.specs.Tables.{Job}
-use Rattle.model.proofs.Lists.{pairwise-is, flatMap-append}
 use Rattle.layout.specs.declared.Command.{Command}
 use Rattle.layout.specs.declared.Command.the-variants.{NextTable, NextColumn, ExtractBegins, QueryBegins, TableUsed, OutputColumn, NextClause, NumberCompared, ColumnCompared, End}
 use Rattle.layout.specs.Commands.{startBytes, operands, entryAt}
 use Rattle.layout.specs.Reading.{State, atStart, next, stepOf, accepted, starts, readOf}
 use Rattle.layout.specs.Writing.{entryBytes, jobBytes}
-use Rattle.layout.proofs.Sound.{Sound}
 use Rattle.layout.proofs.Given.{byteOf, Given, step-given}
 use Rattle.layout.proofs.Keeps.{start-sound, step-sound}
 use Rattle.layout.proofs.Ends.{read-ended}

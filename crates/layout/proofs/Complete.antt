@@ -5,33 +5,34 @@ use mathlib.Core.List.{List, [], _∷_, _++_}
 use Prim.Native.Nat.{_<_}
 use native.Mathlib.Omega.{arith}
 use lib.ListN.{length, length-append}
-use lib.Dec.{T, leb→le}
-use Rattle.words.proofs.Words.{Bytes}
-use Rattle.model.specs.Lists.{flatMap}
-use Rattle.model.specs.Tables.{Job, columnsOf}
+use lib.Dec.{T}
+use Rattle.base.specs.Lists.{flatMap}
+use Rattle.base.specs.Bytes.{Bytes}
+use Rattle.base.proofs.Lists.{flatMap-append}
+use Rattle.base.proofs.Bytes.{bytes-none, bytes-more, bytes-append}
+use Rattle.model.specs.Tables.{Job}
 use Rattle.model.specs.WellFormed.{wellFormed}
-use Rattle.model.proofs.Lists.{flatMap-append}
+use Rattle.model.proofs.Formed.{WellFormed, well-formed}
 use Rattle.layout.specs.declared.Command.the-variants.{ExtractBegins, QueryBegins, End}
 use Rattle.layout.specs.Commands.{startBytes, ending, Entry, mark}
 use Rattle.layout.specs.Reading.{noExpression, atStart, accepted, readOf}
 use Rattle.layout.specs.Writing.{entryBytes, tableEntries, expressionEntries, entriesOf, jobBytes}
-use Rattle.layout.proofs.Taken.{bytes-none, bytes-more, bytes-append, spelled-extract, spelled-query, Legal, then, run-append, run-bytes, run-length, run-accepted}
-use Rattle.layout.proofs.Written.{Sized, parts}
+use Rattle.layout.proofs.Taken.{spelled-extract, spelled-query, Legal, then, run-append, run-bytes, run-length, run-accepted}
 use Rattle.layout.proofs.Reaches.{Reaches, withOnly, reach-tables, amid, reach-expression}
 
 -- all entries but the end
 abbrev content : Job → List Entry
 content j = flatMap (j .tables) tableEntries ++ (mark 0x20 ∷ expressionEntries (j .extract)) ++ (mark 0x21 ∷ expressionEntries (j .query))
 
-reach-end : (j : Job) → Sized j → Reaches atStart (content j) ending (λ l. record { last = l; inQuery = true; job = j })
+reach-end : (j : Job) → WellFormed j → Reaches atStart (content j) ending (λ l. record { last = l; inQuery = true; job = j })
 reach-end j w =
-    let tables = leb→le (length (j .tables)) 4 (w .few-tables) in
-    let columns = leb→le (length (columnsOf (j .tables))) 16 (w .few-columns) in
+    let tables = w .limits .few-tables in
+    let columns = w .limits .few-columns in
     let k : Job = record { tables = j .tables; extract = noExpression; query = noExpression } in
     let m : Job = record { tables = j .tables; extract = j .extract; query = noExpression } in
     let (a, f, r) = reach-tables j w in
-    let (b, g, s) = reach-expression false k tables columns (j .extract) (w .extract-formed) 0x20 tt in
-    let (c, h, t) = reach-expression true m tables columns (j .query) (w .query-formed) 0x21 tt in
+    let (b, g, s) = reach-expression false k tables columns (j .extract) (w .formed .extract) (w .limits .extract) 0x20 tt in
+    let (c, h, t) = reach-expression true m tables columns (j .query) (w .formed .query) (w .limits .query) 0x21 tt in
     let extract : Legal (withOnly (j .tables) a) ExtractBegins (mark 0x20) =
     record { order = f; room = tt; range = tt; op = tt; named = tt; fresh = tt } in
     let query : Legal (amid false b k (j .extract)) QueryBegins (mark 0x21) =
@@ -44,7 +45,7 @@ job-bytes j = ap (λ bs. startBytes ++ bs) (flatMap-append (content j) (mark 0xF
 
 pub written-bytes : (j : Job) → T (wellFormed j) → Bytes (jobBytes j)
 written-bytes j t =
-    let (l, o, r) = reach-end j (parts j t) in
+    let (l, o, r) = reach-end j (well-formed j t) in
     let F = flatMap (content j) entryBytes in
     let last = bytes-append F (0xFF ∷ []) (run-bytes r) (bytes-more 0xFF [] (omega arith) bytes-none) in
     let start : Bytes startBytes =
@@ -55,7 +56,7 @@ written-bytes j t =
 pub read-written : (j : Job) → T (wellFormed j) → readOf (jobBytes j) ≡ accepted j
 unfolding readOf
 read-written j t =
-    let (l, o, r) = reach-end j (parts j t) in
+    let (l, o, r) = reach-end j (well-formed j t) in
     let F = flatMap (content j) entryBytes in
     let s = startBytes ++ (F ++ 0xFF ∷ []) in
     let end : Legal (record { last = l; inQuery = true; job = j }) End (mark 0xFF) =

@@ -1,7 +1,7 @@
 -- A job that is accepted: what each step keeps holds at the end, and a sound state at the end has a well-formed job. Assumes nothing.
 use mathlib.Core.Path.{_≡_, refl}
 use mathlib.Core.Bool.{Bool, true, false, not, cond, _&&_}
-use mathlib.Core.List.{List, [], _∷_, _++_}
+use mathlib.Core.List.{List, [], _∷_}
 use Prim.Native.Nat.{ℕ, zero, suc, _≤_}
 use native.Mathlib.Omega.{arith}
 use lib.ListN.{length}
@@ -9,12 +9,12 @@ use lib.Signed.{leZ}
 use lib.Dec.{T, eqb, le→leb}
 use mir.Facts.{and-yes, yes-and}
 use borrow.Author.Tests.{eqb-true}
-use Rattle.model.specs.Lists.{allOf, concat, isEmpty}
+use Rattle.layout.specs.Sound.{Sound}
+use Rattle.base.specs.Lists.{allOf, isEmpty}
+use Rattle.base.proofs.Lists.{all-weaker, all-both, all-concat}
 use Rattle.model.specs.Tables.{Bounds, Table, Job, columnsOf}
 use Rattle.model.specs.WellFormed.{inRange, structured, limited, wellFormed}
 use Rattle.layout.specs.Reading.{State, atStart, Step, next, stop, stepOf, Reading, accepted, refused, ended, onward, readFrom, starts, readOf}
-use Rattle.layout.proofs.Sound.{Sound}
-use Rattle.layout.proofs.Growing.{all-weaker, all-both}
 use Rattle.layout.proofs.Keeps.{begun-formed}
 
 -- ---- reading to the end
@@ -56,18 +56,6 @@ module _ (P : ℕ → State → Type 0) (s : List ℕ) (j : Job)
       go false p f = let w : _≡_ {A = ℕ} 0 1 = cc in absurd (omega arith)
 
 -- ---- the job of a sound state at the end
-all-parts : {A : Type 0} (p : A → Bool) (xs ys : List A) → T (allOf p (xs ++ ys)) → T (allOf p xs) × T (allOf p ys)
-all-parts p [] ys t = (tt, t)
-all-parts p (x ∷ xs) ys t =
-    let (k, l) = and-yes (p x) (allOf p (xs ++ ys)) t in
-    let (m, n) = all-parts p xs ys l in
-    (yes-and (p x) (allOf p xs) k m, n)
-
-all-concat : {A : Type 0} (p : A → Bool) (xs : List (List A)) → T (allOf p (concat xs)) → T (allOf (allOf p) xs)
-all-concat p [] t = tt
-all-concat p (x ∷ xs) t =
-    let (k, l) = all-parts p x (concat xs) t in
-    yes-and (allOf p x) (allOf (allOf p) xs) k (all-concat p xs l)
 
 -- at least one column, where there is a table and each has one
 some-columns : (ts : List Table) → T (not (isEmpty ts)) → T (allOf (λ t. not (isEmpty t)) ts) → 1 ≤ length (columnsOf ts)

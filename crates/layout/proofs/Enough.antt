@@ -1,6 +1,6 @@
 -- The first 600 bytes decide how a job is read: what is read takes up 579 at most. Assumes nothing.
 use mathlib.Core.Path.{_≡_, refl}
-use mathlib.Core.Bool.{Bool, true, false, cond, _&&_}
+use mathlib.Core.Bool.{Bool, true, false, cond}
 use mathlib.Core.List.{List, [], _∷_, _++_, map}
 use mathlib.Core.Option.{Option, none, some}
 use Prim.Native.Nat.{ℕ, zero, suc, _+_, _*_, _<_, _≤_}
@@ -11,23 +11,21 @@ use lib.Seq.{length-take-le, take-take, getD-take}
 use lib.Dec.{T, eqb, leb, leb→le}
 use mir.Facts.{and-yes}
 use borrow.Author.Tests.{lt-ltb, le-leb, ne-eqb}
-use Rattle.model.specs.Lists.{allOf, flatMap}
+use Rattle.layout.specs.Sound.{Begun, Sound}
+use Rattle.base.specs.Lists.{allOf, flatMap}
+use Rattle.base.proofs.Lists.{flatMap-append}
 use Rattle.model.specs.Tables.{Table, Against, column, number, Clause, Condition, Expression, Job, columnsOf}
 use Rattle.model.specs.Coded.{numberOfOp}
-use Rattle.model.specs.WellFormed.{againstLimited}
-use Rattle.model.proofs.Lists.{flatMap-append}
+use Rattle.model.proofs.Formed.{Formed, Limited, is-formed, is-limited}
 use Rattle.layout.specs.declared.Command.{Command}
 use Rattle.layout.specs.declared.Command.the-variants.{NextTable, NextColumn, ExtractBegins, QueryBegins, TableUsed, OutputColumn, NextClause, NumberCompared, ColumnCompared, End}
 use Rattle.layout.specs.Commands.{commandOf, operands, Entry, addColumn, mark, useTable, addOutput, addComparison, entryAt}
 use Rattle.layout.specs.Reading.{State, atStart, Step, next, stop, taken, ifListed, stepOf, Reading, ended, onward, readFrom, readOf}
 use Rattle.layout.specs.Writing.{comparisonBytes, entryBytes, tableEntries, clauseEntries, expressionEntries}
-use Rattle.layout.proofs.Sound.{Begun, Sound}
-use Rattle.layout.proofs.Growing.{all-weaker}
 use Rattle.layout.proofs.Given.{step-given}
 use Rattle.layout.proofs.Keeps.{start-sound, step-sound}
 use Rattle.layout.proofs.Rooms.{used-fit, outputs-fit}
 use Rattle.layout.proofs.Entries.{soFar, step-more}
-use Rattle.layout.proofs.Written.{Formed, parts-formed}
 
 -- ---- how many bytes entries take up
 abbrev size : List Entry → ℕ
@@ -68,16 +66,16 @@ condition-size (c ∷ k) t =
 -- ---- how many of them what has been read takes up
 
 -- a whole expression is one of which all has been read
-formed-begun : (ts : List Table) (e : Expression) → Formed ts e → Begun ts 0xFF e
-formed-begun ts e f = record {
+formed-begun : (ts : List Table) (e : Expression) → Formed ts e → Limited (e .condition) → Begun ts 0xFF e
+formed-begun ts e f l = record {
   declared = f .declared;
   ascends = f .ascends;
-  in-scope = f .in-scope;
+  in-scope = f .outputs;
   differ = f .differ;
-  formed = f .formed;
-  numbers = all-weaker limits (allOf (λ k. againstLimited (k .right))) (λ c t. (parts c t) .1) (e .condition) (f .clause-limits);
-  few-clauses = leb→le (length (e .condition)) 4 (f .few-clauses);
-  few-comparisons = all-weaker limits (λ c. leb (length c) 6) (λ c t. (parts c t) .0) (e .condition) (f .clause-limits);
+  formed = f .condition;
+  numbers = l .numbers;
+  few-clauses = l .few-clauses;
+  few-comparisons = l .few-comparisons;
   no-used = λ k. absurd (omega arith);
   some-used = λ k. f .some-used;
   no-outputs = λ k. absurd (omega arith);
@@ -85,12 +83,6 @@ formed-begun ts e f = record {
   no-clauses = λ k. absurd (omega arith);
   some-clauses = λ k m. absurd (omega arith);
 }
-  where
-    limits : Clause → Bool
-    limits c = leb (length c) 6 && allOf (λ k. againstLimited (k .right)) c
-
-    parts : (c : Clause) → T (limits c) → T (leb (length c) 6) × T (allOf (λ k. againstLimited (k .right)) c)
-    parts c t = and-yes (leb (length c) 6) (allOf (λ k. againstLimited (k .right)) c) t
 
 begun-size : {ts : List Table} {l : ℕ} {e : Expression} → length ts ≤ 4 → length (columnsOf ts) ≤ 16 → Begun ts l e → size (expressionEntries e) ≤ 212
 unfolding expressionEntries
@@ -115,7 +107,7 @@ both-size : (l : ℕ) (q : Bool) (j : Job) → Sound (record { last = l; inQuery
 unfolding expressionEntries
 both-size l true j s =
     let (t, k) = s .finished refl in
-    let extract = formed-begun (j .tables) (j .extract) (parts-formed (j .tables) (j .extract) t k) in
+    let extract = formed-begun (j .tables) (j .extract) (is-formed (j .tables) (j .extract) t) (is-limited (j .extract .condition) k) in
     (begun-size (s .few-tables) (s .few-columns) extract, begun-size (s .few-tables) (s .few-columns) (s .begun))
 both-size l false j s = (begun-size (s .few-tables) (s .few-columns) (s .begun), rw (s .waiting refl) (omega arith))
 

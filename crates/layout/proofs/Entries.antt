@@ -3,24 +3,25 @@ use mathlib.Core.Path.{_≡_, refl, sym}
 use mathlib.Core.Logic.{_⊎_, inl, inr}
 use mathlib.Core.Bool.{Bool, true, false, not, cond, _||_}
 use mathlib.Core.List.{List, [], _∷_, _++_, append-nil, append-assoc, map-append}
-use Prim.Native.Nat.{ℕ, zero, suc, _+_, _<_, _≤_}
+use Prim.Native.Nat.{ℕ, _+_, _<_, _≤_}
 use native.Mathlib.Omega.{arith}
 use lib.ListN.{getD}
 use lib.IntN.{ℤ}
 use lib.Dec.{T, eqb, leb, leb→le}
 use borrow.Author.Tests.{ne-eqb, le-leb, lt-leb}
+use Rattle.layout.specs.Sound.{Sound}
+use Rattle.base.specs.Lists.{flatMap, isEmpty, inLast}
+use Rattle.base.proofs.Lists.{flatMap-append, some-snoc}
 use Rattle.words.specs.Word.{valueAt}
-use Rattle.model.specs.Lists.{flatMap, isEmpty}
 use Rattle.model.specs.Tables.{Bounds, Table, Against, column, number, Comparison, Clause, Expression, Job}
-use Rattle.model.specs.Coded.{opAt, numberOfOp}
-use Rattle.model.proofs.Lists.{flatMap-append}
+use Rattle.model.specs.Coded.{opAt}
+use Rattle.model.proofs.Theorems.{op-back}
 use Rattle.layout.specs.declared.Command.{Command}
 use Rattle.layout.specs.declared.Command.the-variants.{NextTable, NextColumn, ExtractBegins, QueryBegins, TableUsed, OutputColumn, NextClause, NumberCompared, ColumnCompared, End}
 use Rattle.layout.specs.Commands.{ending, Entry, addTable, addColumn, mark, useTable, addOutput, addClause, addComparison, entryAt}
-use Rattle.layout.specs.Reading.{State, current, follows, inLast, withUsed, withOutput, withCondition, withCurrent, after}
+use Rattle.layout.specs.Reading.{State, current, follows, withUsed, withOutput, withCondition, withCurrent, after}
 use Rattle.layout.specs.Writing.{tableEntries, clauseEntries, expressionEntries, entriesOf}
-use Rattle.layout.proofs.Sound.{Sound}
-use Rattle.layout.proofs.Growing.{some-more, either, among}
+use Rattle.layout.proofs.Growing.{either, among}
 use Rattle.layout.proofs.Given.{byteOf, Given}
 
 -- ---- one more element, one more in the last list
@@ -32,14 +33,6 @@ module _ {A B : Type 0} where
   flatMap-last f a b h (x ∷ y ∷ ys) t = rw (flatMap-last f a b h (y ∷ ys) tt) (sym (append-assoc (f x) (flatMap (y ∷ ys) f) (b ∷ [])))
 
 -- an op's number, there and back
-op-back : (o : ℕ) → o ≤ 4 → numberOfOp (opAt o) ≡ o
-op-back zero h = refl
-op-back (suc zero) h = refl
-op-back (suc (suc zero)) h = refl
-op-back (suc (suc (suc zero))) h = refl
-op-back (suc (suc (suc (suc zero)))) h = refl
-op-back (suc (suc (suc (suc (suc o))))) h = absurd (omega arith)
-
 -- ---- an expression with one thing more
 module _ (e : Expression) where
   entries-used : (t : ℕ) → e .outputs ≡ [] → e .condition ≡ [] → expressionEntries (withUsed e t) ≡ expressionEntries e ++ useTable t ∷ []
@@ -127,7 +120,7 @@ module _ (st : State) (s : Sound st) where
       one t = simp map-append
 
       some : (st .last ≡ 0x10) ⊎ (st .last ≡ 0x11) → T (not (isEmpty (st .job .tables)))
-      some (inl z) = let (ts, e, each) = s .opened z in rw e (some-more ts [])
+      some (inl z) = let (ts, e, each) = s .opened z in rw e (some-snoc ts [])
       some (inr z) = (s .filled (omega arith)) .0
 
   more-extract : T (follows st ExtractBegins) → soFar (after 0x20 (mark 0x20) st) ≡ soFar st ++ mark 0x20 ∷ []

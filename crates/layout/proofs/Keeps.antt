@@ -1,7 +1,7 @@
 -- Reading keeps its states sound: one law for each command. Assumes nothing.
 use mathlib.Core.Path.{_≡_, refl}
 use mathlib.Core.Logic.{_⊎_, inl, inr}
-use mathlib.Core.Bool.{Bool, true, false, not, cond, _&&_, _||_, true≢false, false≢true}
+use mathlib.Core.Bool.{Bool, true, false, not, cond, _&&_, true≢false, false≢true, _||_}
 use mathlib.Core.List.{List, [], _∷_, _++_}
 use Prim.Native.Nat.{ℕ, _+_, _<_, _≤_}
 use native.Mathlib.Omega.{arith}
@@ -11,17 +11,18 @@ use lib.Signed.{leZ}
 use lib.Dec.{T, eqb, ltb, leb, ltb→lt, le→leb}
 use mir.Facts.{and-yes, yes-and}
 use borrow.Author.Tests.{ne-eqb}
+use Rattle.layout.specs.Sound.{Begun, Sound}
+use Rattle.base.specs.Lists.{anyOf, allOf, isEmpty, lastOf, inLast}
+use Rattle.base.proofs.Lists.{all-snoc, some-snoc, all-weaker, all-both, all-last, length-last, some-last, last-filled, concat-more, concat-last}
 use Rattle.words.specs.Word.{valueAt}
-use Rattle.model.specs.Lists.{anyOf, allOf, isEmpty}
 use Rattle.model.specs.Tables.{Bounds, Table, Against, column, number, Comparison, Condition, Expression, Job, columnsOf, uses}
 use Rattle.model.specs.Coded.{opAt}
 use Rattle.model.specs.WellFormed.{inScope, againstInScope, comparisonFormed, inRange, againstLimited, expressionFormed, conditionLimited}
 use Rattle.layout.specs.declared.Command.{Command}
 use Rattle.layout.specs.declared.Command.the-variants.{NextTable, NextColumn, ExtractBegins, QueryBegins, TableUsed, OutputColumn, NextClause, NumberCompared, ColumnCompared, End}
 use Rattle.layout.specs.Commands.{ending, addTable, addColumn, mark, useTable, addOutput, addClause, addComparison, entryAt}
-use Rattle.layout.specs.Reading.{State, noExpression, atStart, current, lastOf, follows, hasRoom, aboveLast, inLast, withUsed, withOutput, withCondition, withCurrent, after, next, stepOf}
-use Rattle.layout.proofs.Sound.{Begun, Sound}
-use Rattle.layout.proofs.Growing.{all-more, some-more, all-weaker, all-both, ascending-more, differ-more, all-last, length-last, some-last, last-filled, concat-more, concat-last, either, among}
+use Rattle.layout.specs.Reading.{State, noExpression, atStart, current, follows, hasRoom, aboveLast, withUsed, withOutput, withCondition, withCurrent, after, next, stepOf}
+use Rattle.layout.proofs.Growing.{ascending-more, differ-more, either, among}
 use Rattle.layout.proofs.Given.{byteOf, Given, step-given}
 
 -- ---- an expression with one thing more
@@ -66,7 +67,7 @@ module _ (ts : List Table) (l : ℕ) (e : Expression) (b : Begun ts l e) where
       let no-outputs = b .no-outputs h in
       let no-clauses = b .no-clauses (omega arith) in
       record {
-        declared = all-more (λ u. ltb u (length ts)) (e .used) t (b .declared) d;
+        declared = all-snoc (λ u. ltb u (length ts)) (e .used) t (b .declared) d;
         ascends = ascending-more (e .used) t (b .ascends) a;
         in-scope = rw no-outputs tt;
         differ = rw no-outputs tt;
@@ -75,7 +76,7 @@ module _ (ts : List Table) (l : ℕ) (e : Expression) (b : Begun ts l e) where
         few-clauses = rw no-clauses (omega arith);
         few-comparisons = rw no-clauses tt;
         no-used = λ k. absurd (omega arith);
-        some-used = λ k. some-more (e .used) t;
+        some-used = λ k. some-snoc (e .used) t;
         no-outputs = λ k. no-outputs;
         some-outputs = λ k. absurd (omega arith);
         no-clauses = λ k. no-clauses;
@@ -89,7 +90,7 @@ module _ (ts : List Table) (l : ℕ) (e : Expression) (b : Begun ts l e) where
       record {
         declared = b .declared;
         ascends = b .ascends;
-        in-scope = all-more (inScope ts e) (e .outputs) c (b .in-scope) s;
+        in-scope = all-snoc (inScope ts e) (e .outputs) c (b .in-scope) s;
         differ = differ-more (e .outputs) c (b .differ) n;
         formed = rw no-clauses tt;
         numbers = rw no-clauses tt;
@@ -98,7 +99,7 @@ module _ (ts : List Table) (l : ℕ) (e : Expression) (b : Begun ts l e) where
         no-used = λ k. absurd (omega arith);
         some-used = λ k. b .some-used g;
         no-outputs = λ k. absurd (omega arith);
-        some-outputs = λ k. some-more (e .outputs) c;
+        some-outputs = λ k. some-snoc (e .outputs) c;
         no-clauses = λ k. no-clauses;
         some-clauses = λ k m. absurd (omega arith);
       }
@@ -128,20 +129,20 @@ module _ (ts : List Table) (l : ℕ) (e : Expression) (b : Begun ts l e) where
   begun-clause : 0x31 ≤ l → T (ltb (length (e .condition)) 4) → Begun ts 0x40 (withCondition e (e .condition ++ [] ∷ []))
   begun-clause g r =
       begun-with 0x40 (e .condition ++ [] ∷ []) g (omega arith)
-      (all-more (allOf (comparisonFormed ts e)) (e .condition) [] (b .formed) tt)
-      (all-more (allOf (λ k. againstLimited (k .right))) (e .condition) [] (b .numbers) tt)
+      (all-snoc (allOf (comparisonFormed ts e)) (e .condition) [] (b .formed) tt)
+      (all-snoc (allOf (λ k. againstLimited (k .right))) (e .condition) [] (b .numbers) tt)
       (simp length-append (omega (arith, ltb→lt (length (e .condition)) 4 r)))
-      (all-more (λ c. leb (length c) 6) (e .condition) [] (b .few-comparisons) tt)
-      (λ z. some-more (e .condition) [])
+      (all-snoc (λ c. leb (length c) 6) (e .condition) [] (b .few-comparisons) tt)
+      (λ z. some-snoc (e .condition) [])
 
   begun-comparison : (d : ℕ) (k : Comparison) → 0x41 ≤ d → 0x40 ≤ l → l ≤ 0x42 → T (ltb (length (lastOf (e .condition))) 6)
       → T (comparisonFormed ts e k) → T (againstLimited (k .right)) → Begun ts d (withCondition e (inLast (e .condition) k))
   begun-comparison d k i g h r f a =
       let one-more : length (lastOf (e .condition) ++ k ∷ []) ≤ 6 = simp length-append (omega (arith, ltb→lt (length (lastOf (e .condition))) 6 r)) in
       begun-with d (inLast (e .condition) k) (omega arith) (omega arith)
-      (all-last (allOf (comparisonFormed ts e)) (e .condition) k (b .formed) (λ t. all-more (comparisonFormed ts e) (lastOf (e .condition)) k t f))
+      (all-last (allOf (comparisonFormed ts e)) (e .condition) k (b .formed) (λ t. all-snoc (comparisonFormed ts e) (lastOf (e .condition)) k t f))
       (all-last (allOf (λ x. againstLimited (x .right))) (e .condition) k (b .numbers)
-      (λ t. all-more (λ x. againstLimited (x .right)) (lastOf (e .condition)) k t a))
+      (λ t. all-snoc (λ x. againstLimited (x .right)) (lastOf (e .condition)) k t a))
       (rw (length-last (e .condition) k) (b .few-clauses))
       (all-last (λ c. leb (length c) 6) (e .condition) k (b .few-comparisons) (λ t. le→leb (length (lastOf (e .condition) ++ k ∷ [])) 6 one-more))
       (λ z. some-last (e .condition) k (b .some-clauses g h))
@@ -229,7 +230,7 @@ module _ (st : State) (s : Sound st) where
       rw q (record {
         few-tables = rw (length-last (st .job .tables) b) (s .few-tables);
         few-columns = rw columns (simp length-append (omega (arith, ltb→lt (length (columnsOf (st .job .tables))) 16 r)));
-        bounds = rw columns (all-more (λ b. inRange (b .lo) && inRange (b .hi) && leZ (b .lo) (b .hi)) (columnsOf (st .job .tables)) b (s .bounds) i);
+        bounds = rw columns (all-snoc (λ b. inRange (b .lo) && inRange (b .hi) && leZ (b .lo) (b .hi)) (columnsOf (st .job .tables)) b (s .bounds) i);
         no-table = λ z. absurd (omega arith);
         opened = λ z. absurd (omega arith);
         filled = λ z. (some-last (st .job .tables) b some, each);
@@ -245,10 +246,10 @@ module _ (st : State) (s : Sound st) where
 
       filled-more : (st .last ≡ 0x10) ⊎ (st .last ≡ 0x11)
           → T (not (isEmpty (st .job .tables))) × T (allOf (λ t. not (isEmpty t)) (inLast (st .job .tables) b))
-      filled-more (inl z) = let (ts, e, each) = s .opened z in rw e (some-more ts [], last-filled ts b each)
+      filled-more (inl z) = let (ts, e, each) = s .opened z in rw e (some-snoc ts [], last-filled ts b each)
       filled-more (inr z) =
           let (some, each) = s .filled (omega arith) in
-          (some, all-last (λ t. not (isEmpty t)) (st .job .tables) b each (λ t. some-more (lastOf (st .job .tables)) b))
+          (some, all-last (λ t. not (isEmpty t)) (st .job .tables) b each (λ t. some-snoc (lastOf (st .job .tables)) b))
 
   sound-extract : T (follows st ExtractBegins) → Sound (after 0x20 (mark 0x20) st)
   sound-extract f =

@@ -1,5 +1,4 @@
 pub mod Samples
-pub mod Sound
 pub mod Growing
 pub mod Given
 pub mod Keeps
@@ -8,7 +7,6 @@ pub mod Ends
 pub mod Entries
 pub mod Back
 pub mod Taken
-pub mod Written
 pub mod Reaches
 pub mod Complete
 pub mod Enough

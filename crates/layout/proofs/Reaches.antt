@@ -7,21 +7,23 @@ use native.Mathlib.Omega.{arith}
 use lib.ListN.{length, length-append}
 use lib.Signed.{leZ}
 use mir.Facts.{and-yes, yes-and}
-use lib.Dec.{T, eqb, leb, ltb, leb→le, ltb→lt, lt→ltb, le→leb}
+use lib.Dec.{T, eqb, ltb, leb→le, ltb→lt, lt→ltb, le→leb}
+use Rattle.model.proofs.Formed.{Formed, Limited, WellFormed, near, range-word}
+use Rattle.base.specs.Lists.{anyOf, allOf, concat, isEmpty, flatMap, lastOf}
+use Rattle.base.proofs.Lists.{all-among, last-append, in-last, length-concat, all-concat}
+use Rattle.base.proofs.Tests.{or-right}
 use Rattle.words.specs.Compare.{Op, less, atMost, equal, atLeast, more}
-use Rattle.model.specs.Lists.{anyOf, allOf, concat, isEmpty, flatMap}
 use Rattle.model.specs.Tables.{Bounds, Table, Against, column, number, Comparison, Clause, Expression, Job, columnsOf, tableOf, uses}
 use Rattle.model.specs.Coded.{numberOfOp}
 use Rattle.model.specs.WellFormed.{tableFormed, inScope, againstInScope, comparisonFormed, inRange, againstLimited}
-use Rattle.model.proofs.Lists.{or-right}
 use Rattle.model.proofs.Theorems.{op-number}
 use Rattle.layout.specs.declared.Command.{Command}
 use Rattle.layout.specs.declared.Command.the-variants.{NextColumn, TableUsed, OutputColumn, NextClause, NumberCompared, ColumnCompared}
 use Rattle.layout.specs.Commands.{ending, before, Entry, addTable, addColumn, useTable, addOutput, addClause, addComparison}
-use Rattle.layout.specs.Reading.{State, noExpression, atStart, current, lastOf, hasRoom, inRanges, opKnown, declared, isNew, withCurrent, added}
+use Rattle.layout.specs.Reading.{State, noExpression, atStart, current, hasRoom, inRanges, opKnown, declared, isNew, withCurrent, added}
 use Rattle.layout.specs.Writing.{tableEntries, clauseEntries, expressionEntries}
 use Rattle.layout.proofs.Taken.{Spelled, spelled-table, spelled-column, spelled-used, spelled-output, spelled-clause, spelled-against, spelled-columns, Legal, Run, done, run-one, run-append}
-use Rattle.layout.proofs.Written.{Formed, Sized, range-fits, all-at, all-concat, above-at, new-at, last-append, in-last, length-concat}
+use Rattle.layout.proofs.Growing.{above-at, new-at, not-empty}
 
 -- ---- a list of things, one after the other
 
@@ -91,7 +93,7 @@ take-column ts bs b l o h r i =
       named = tt;
       fresh = tt;
     } in
-    run-one (spelled-column (b .lo) (b .hi) (range-fits (b .lo) x) (range-fits (b .hi) y)) refl legal (rw (in-last ts bs b))
+    run-one (spelled-column (b .lo) (b .hi) (range-word (b .lo) x) (range-word (b .hi) y)) refl legal (rw (in-last ts bs b))
 
 -- a table's columns, behind other tables
 module _ (ts : List Table) (t : Table) (few : length (concat ts) + length t ≤ 16)
@@ -101,7 +103,7 @@ module _ (ts : List Table) (t : Table) (few : length (concat ts) + length t ≤ 
   reach-column bs b cs q l o =
       let room : length (concat (ts ++ bs ∷ [])) < 16 =
       omega (arith, length-concat ts (bs ∷ []), length-append bs [], ap length q, length-append bs (b ∷ cs)) in
-      (0x11, tt, take-column ts bs b l o room (all-at _ bs b cs q ranges) (all-at _ bs b cs q ordered))
+      (0x11, tt, take-column ts bs b l o room (all-among _ bs b cs q ranges) (all-among _ bs b cs q ordered))
 
   reach-columns : T (not (isEmpty t))
       → Reaches (withOnly (ts ++ [] ∷ []) 0x10) (map columnEntry t) (0x11 ∷ []) (withOnly (ts ++ t ∷ []))
@@ -109,21 +111,21 @@ module _ (ts : List Table) (t : Table) (few : length (concat ts) + length t ≤ 
       rw (flat-map columnEntry t)
       (reach-some _ (λ bs. withOnly (ts ++ bs ∷ [])) (0x10 ∷ 0x11 ∷ []) (0x11 ∷ []) (any-more 0x10 (0x11 ∷ [])) t reach-column some 0x10 tt)
 
-module _ (j : Job) (w : Sized j) where
+module _ (j : Job) (w : WellFormed j) where
   -- a table, behind some and before others
   reach-table : (ts : List Table) (t : Table) (us : List Table) → j .tables ≡ ts ++ t ∷ us → (l : ℕ) → T (anyOf (eqb l) (0 ∷ 0x11 ∷ []))
       → Reaches (withOnly ts l) (tableEntries t) (0x11 ∷ []) (withOnly (ts ++ t ∷ []))
   reach-table ts t us q l o =
-      let (some, ordered) = and-yes (not (isEmpty t)) (allOf (λ b. leZ (b .lo) (b .hi)) t) (all-at tableFormed ts t us q (w .tables-formed)) in
-      let tables : length (j .tables) ≤ 4 = leb→le _ _ (w .few-tables) in
-      let columns : length (concat (j .tables)) ≤ 16 = leb→le _ _ (w .few-columns) in
+      let (some, ordered) = and-yes (not (isEmpty t)) (allOf (λ b. leZ (b .lo) (b .hi)) t) (all-among tableFormed ts t us q (w .formed .tables)) in
+      let tables = w .limits .few-tables in
+      let columns = w .limits .few-columns in
       let few : length (concat ts) + length t ≤ 16 =
       omega (arith, ap (λ us. length (concat us)) q, length-concat ts (t ∷ us), length-append t (concat us)) in
-      let (m, k, r) = reach-columns ts t few (all-concat _ ts t us (rw q at (w .ranges))) ordered some in
+      let (m, k, r) = reach-columns ts t few (all-among (allOf near) ts t us q (all-concat near (j .tables) (w .limits .ranges))) ordered some in
       (m, k, run-append (take-table ts l o (omega (arith, ap length q, length-append ts (t ∷ us)))) r)
 
   pub reach-tables : Reaches atStart (flatMap (j .tables) tableEntries) (0x11 ∷ []) (withOnly (j .tables))
-  reach-tables = reach-some tableEntries withOnly (0 ∷ 0x11 ∷ []) (0x11 ∷ []) (any-more 0 (0x11 ∷ [])) (j .tables) reach-table (w .some-tables) 0 tt
+  reach-tables = reach-some tableEntries withOnly (0 ∷ 0x11 ∷ []) (0x11 ∷ []) (any-more 0 (0x11 ∷ [])) (j .tables) reach-table (not-empty (j .tables) (w .limits .some-tables)) 0 tt
 
 -- ---- expressions
 abbrev comparisonEntry : Comparison → Entry
@@ -163,7 +165,7 @@ inClause = 0x40 ∷ 0x41 ∷ 0x42 ∷ []
 
 -- an expression that is well formed over the tables of j
 module _ (q : Bool) (j : Job) (few : length (j .tables) ≤ 4) (columns : length (columnsOf (j .tables)) ≤ 16)
-    (x : Expression) (w : Formed (j .tables) x) where
+    (x : Expression) (w : Formed (j .tables) x) (limits : Limited (x .condition)) where
   -- what is in scope depends on the used tables alone
   scope : (os : List ℕ) (ks : List Clause) (c : ℕ) → T (inScope (j .tables) x c) → T (inScope (j .tables) (upTo (x .used) os ks) c)
   unfolding uses
@@ -181,7 +183,7 @@ module _ (q : Bool) (j : Job) (few : length (j .tables) ≤ 4) (columns : length
   reach-used : (ts : List ℕ) (t : ℕ) (us : List ℕ) → x .used ≡ ts ++ t ∷ us → (l : ℕ) → T (anyOf (eqb l) (0x20 ∷ 0x21 ∷ 0x30 ∷ []))
       → Reaches (usedUpTo ts l) (useTable t ∷ []) (0x30 ∷ []) (usedUpTo (ts ++ t ∷ []))
   reach-used ts t us p l o =
-      let named : T (ltb t (length (j .tables))) = all-at _ ts t us p (w .declared) in
+      let named : T (ltb t (length (j .tables))) = all-among _ ts t us p (w .declared) in
       let small : t < 256 = omega (arith, ltb→lt t (length (j .tables)) named) in
       let new = above-at ts t us (rw p at (w .ascends)) in
       let legal = legal-in q l j (upTo ts [] []) TableUsed (useTable t) o (λ st h. tt) tt tt named new in
@@ -201,7 +203,7 @@ module _ (q : Bool) (j : Job) (few : length (j .tables) ≤ 4) (columns : length
   reach-output : (os : List ℕ) (c : ℕ) (ps : List ℕ) → x .outputs ≡ os ++ c ∷ ps → (l : ℕ) → T (anyOf (eqb l) (0x30 ∷ 0x31 ∷ []))
       → Reaches (outputsUpTo os l) (addOutput c ∷ []) (0x31 ∷ []) (outputsUpTo (os ++ c ∷ []))
   reach-output os c ps p l o =
-      let named : T (inScope (j .tables) x c) = all-at (inScope (j .tables) x) os c ps p (w .in-scope) in
+      let named : T (inScope (j .tables) x c) = all-among (inScope (j .tables) x) os c ps p (w .outputs) in
       let new = new-at os c ps (rw p at (w .differ)) in
       let e = upTo (x .used) os [] in
       let legal = legal-in q l j e OutputColumn (addOutput c) o (λ st h. tt) tt tt (scope os [] c named) new in
@@ -255,7 +257,7 @@ module _ (q : Bool) (j : Job) (few : length (j .tables) ≤ 4) (columns : length
           → Reaches (clausesUpTo (ks ++ c ∷ []) l) (comparisonEntry k ∷ []) inClause (clausesUpTo (ks ++ (c ++ k ∷ []) ∷ []))
       go (number v) p =
           let spelled : Spelled NumberCompared 0x41 (comparisonEntry k) =
-          rw p (spelled-against (numberOfOp (k .op)) (k .left) v below (scope-below (k .left) (scopes .0)) (range-fits v (rw p at i))) in
+          rw p (spelled-against (numberOfOp (k .op)) (k .left) v below (scope-below (k .left) (scopes .0)) (range-word v (rw p at i))) in
           (0x41, tt, take-comparison ks c k l spelled refl refl o room i h)
       go (column n) p =
           let known : T (inScope (j .tables) x n) = rw p at (scopes .1) in
@@ -264,29 +266,28 @@ module _ (q : Bool) (j : Job) (few : length (j .tables) ≤ 4) (columns : length
           (0x42, tt, take-comparison ks c k l spelled refl refl o room i h)
 
   -- the comparisons of a clause c, behind other clauses
-  reach-comparisons : (ks : List Clause) (c : Clause) → T (leb (length c) 6 && allOf (λ k. againstLimited (k .right)) c)
+  reach-comparisons : (ks : List Clause) (c : Clause) → length c ≤ 6 → T (allOf (λ k. againstLimited (k .right)) c)
       → T (allOf (comparisonFormed (j .tables) x) c)
       → Reaches (clausesUpTo (ks ++ [] ∷ []) 0x40) (map comparisonEntry c) inClause (clausesUpTo (ks ++ c ∷ []))
-  reach-comparisons ks c t h =
+  reach-comparisons ks c few near-by h =
       rw (flat-map comparisonEntry c)
       (reach-rest _ (λ b. clausesUpTo (ks ++ b ∷ [])) inClause inClause (λ l o. o) c one [] c refl 0x40 tt)
     where
       one : (b : Clause) (k : Comparison) (a : Clause) → c ≡ b ++ k ∷ a → (l : ℕ) → T (anyOf (eqb l) inClause)
           → Reaches (clausesUpTo (ks ++ b ∷ []) l) (comparisonEntry k ∷ []) inClause (clausesUpTo (ks ++ (b ++ k ∷ []) ∷ []))
       one b k a p l o =
-          let (few, limits) = and-yes (leb (length c) 6) (allOf (λ k. againstLimited (k .right)) c) t in
-          let shorter : length b < 6 = omega (arith, leb→le (length c) 6 few, ap length p, length-append b (k ∷ a)) in
-          reach-comparison ks b k l o shorter (all-at _ b k a p limits) (all-at _ b k a p h)
+          let shorter : length b < 6 = omega (arith, ap length p, length-append b (k ∷ a)) in
+          reach-comparison ks b k l o shorter (all-among _ b k a p near-by) (all-among _ b k a p h)
 
   reach-clause : (ks : List Clause) (c : Clause) (ms : List Clause) → x .condition ≡ ks ++ c ∷ ms → (l : ℕ) → T (anyOf (eqb l) ending)
       → Reaches (clausesUpTo ks l) (clauseEntries c) ending (clausesUpTo (ks ++ c ∷ []))
   reach-clause ks c ms p l o =
-      let few : length ks < 4 = omega (arith, leb→le (length (x .condition)) 4 (w .few-clauses), ap length p, length-append ks (c ∷ ms)) in
+      let few : length ks < 4 = omega (arith, limits .few-clauses, ap length p, length-append ks (c ∷ ms)) in
       let e = upTo (x .used) (x .outputs) ks in
       let legal = legal-in q l j e NextClause addClause o (λ st h. rw h (lt→ltb (length ks) 4 few)) tt tt tt tt in
       let r = take-in q l j e (upTo (x .used) (x .outputs) (ks ++ [] ∷ [])) spelled-clause refl refl (λ k. refl) legal in
-      let formed = all-at (allOf (comparisonFormed (j .tables) x)) ks c ms p (w .formed) in
-      let (m, k, t) = reach-comparisons ks c (all-at _ ks c ms p (w .clause-limits)) formed in
+      let formed = all-among (allOf (comparisonFormed (j .tables) x)) ks c ms p (w .condition) in
+      let (m, k, t) = reach-comparisons ks c (leb→le (length c) 6 (all-among _ ks c ms p (limits .few-comparisons))) (all-among _ ks c ms p (limits .numbers)) formed in
       (m, any-more 0x31 inClause m k, run-append r t)
 
   reach-clauses : (l : ℕ) → T (anyOf (eqb l) (0x31 ∷ []))

@@ -8,13 +8,13 @@ use lib.ListN.{length}
 use lib.Dec.{T, eqb, ltb}
 use mir.Facts.{and-yes, yes-and}
 use borrow.Author.Tests.{lt-ltb, ltb-true, eqb-true, eqb-false}
-use Rattle.model.specs.Lists.{anyOf, allOf, filter}
+use Rattle.layout.specs.Sound.{Begun}
+use Rattle.base.specs.Lists.{anyOf, allOf, filter}
+use Rattle.base.proofs.Lists.{all-weaker}
+use Rattle.base.proofs.Tests.{T-is, not-is}
 use Rattle.model.specs.Tables.{Table, Expression, columnsOf, tableOf, uses}
 use Rattle.model.specs.WellFormed.{ascending, noRepeats, inScope}
-use Rattle.model.proofs.Lists.{T-is, not-is}
 use Rattle.layout.specs.Reading.{aboveLast}
-use Rattle.layout.proofs.Sound.{Begun}
-use Rattle.layout.proofs.Growing.{all-weaker}
 
 -- ---- ascending numbers
 ascending-past : (a : ℕ) (l : List ℕ) (t : ℕ) → T (ascending (a ∷ l)) → T (aboveLast (a ∷ l) t) → a + length (a ∷ l) ≤ t

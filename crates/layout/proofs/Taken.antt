@@ -11,11 +11,12 @@ use lib.IntN.{ℤ}
 use lib.Signed.{mag}
 use lib.Dec.{T, eqb}
 use borrow.Author.Tests.{lt-ltb, le-leb, eq-eqb}
+use Rattle.base.specs.Lists.{flatMap}
+use Rattle.base.specs.Bytes.{Bytes}
+use Rattle.base.proofs.Tests.{T-is}
 use Rattle.words.specs.Word.{signBit, unsignedOf, encoded, valueAt}
-use Rattle.words.proofs.Words.{Bytes, bytes-are, decode-encode}
-use Rattle.model.specs.Lists.{flatMap}
+use Rattle.words.proofs.Words.{bytes-are, decode-encode}
 use Rattle.model.specs.Tables.{column, number}
-use Rattle.model.proofs.Lists.{T-is}
 use Rattle.layout.specs.declared.Command.{Command}
 use Rattle.layout.specs.declared.Command.the-variants.{NextTable, NextColumn, ExtractBegins, QueryBegins, TableUsed, OutputColumn, NextClause, NumberCompared, ColumnCompared, End}
 use Rattle.layout.specs.Commands.{commandOf, operands, Entry, addTable, addColumn, mark, useTable, addOutput, addClause, addComparison, entryAt}

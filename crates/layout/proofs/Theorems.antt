@@ -4,12 +4,12 @@ use mathlib.Core.List.{List}
 use Prim.Native.Nat.{ℕ, _≤_}
 use lib.ListN.{length, take}
 use lib.Dec.{T}
-use Rattle.words.proofs.Words.{Bytes}
+use Rattle.layout.specs.Sound.{Sound}
+use Rattle.base.specs.Bytes.{Bytes}
 use Rattle.model.specs.Tables.{Job}
 use Rattle.model.specs.WellFormed.{wellFormed}
 use Rattle.layout.specs.Reading.{accepted, readOf}
 use Rattle.layout.specs.Writing.{jobBytes}
-use Rattle.layout.proofs.Sound.{Sound}
 use Rattle.layout.proofs.Keeps.{start-sound, step-sound}
 use Rattle.layout.proofs.Ends.{read-ended, sound-end}
 use Rattle.layout.proofs.Back.{written-back}

@@ -1,3 +1,4 @@
 pub mod Commands
 pub mod Reading
 pub mod Writing
+pub mod Sound

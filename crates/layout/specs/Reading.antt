@@ -6,7 +6,7 @@ use Prim.Native.Nat.{ℕ, zero, suc, _+_}
 use lib.ListN.{length, getD, take}
 use lib.Signed.{leZ}
 use lib.Dec.{eqb, ltb, leb}
-use Rattle.model.specs.Lists.{anyOf, pairwise}
+use Rattle.base.specs.Lists.{anyOf, pairwise, inLast, lastOf}
 use Rattle.model.specs.Tables.{Table, Condition, Expression, Job, columnsOf}
 use Rattle.model.specs.Coded.{opAt}
 use Rattle.model.specs.WellFormed.{inScope, againstInScope, inRange, againstLimited}
@@ -33,12 +33,6 @@ atStart = record { last = 0; inQuery = false; job = noJob }
 -- the expression that commands are for
 abbrev pub current : State → Expression
 current st = cond (st .inQuery) (st .job .query) (st .job .extract)
-
--- the last of some lists; with none, the empty one
-abbrev pub lastOf : {A : Type 0} → List (List A) → List A
-lastOf [] = []
-lastOf (x ∷ []) = x
-lastOf (x ∷ y ∷ ys) = lastOf (y ∷ ys)
 
 -- ---- The checks
 
@@ -110,12 +104,6 @@ isNew e addClause = true
 isNew e (addComparison o l r) = true
 
 -- ---- What an entry adds
-
--- the last of some lists with one more element
-abbrev pub inLast : {A : Type 0} → List (List A) → A → List (List A)
-inLast [] a = []
-inLast (x ∷ []) a = (x ++ a ∷ []) ∷ []
-inLast (x ∷ y ∷ ys) a = x ∷ inLast (y ∷ ys) a
 
 abbrev pub withUsed : Expression → ℕ → Expression
 withUsed e t = record { used = e .used ++ t ∷ []; outputs = e .outputs; condition = e .condition }

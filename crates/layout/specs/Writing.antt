@@ -1,8 +1,8 @@
 -- The bytes of a job: the start, then an entry for each thing in it.
 use mathlib.Core.List.{List, [], _∷_, _++_, map}
 use Prim.Native.Nat.{ℕ}
+use Rattle.base.specs.Lists.{flatMap}
 use Rattle.words.specs.Word.{encoded}
-use Rattle.model.specs.Lists.{flatMap}
 use Rattle.model.specs.Tables.{Table, Against, column, number, Clause, Expression, Job}
 use Rattle.model.specs.Coded.{numberOfOp}
 use Rattle.layout.specs.Commands.{startBytes, Entry, addTable, addColumn, mark, useTable, addOutput, addClause, addComparison}

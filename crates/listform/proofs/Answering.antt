@@ -7,9 +7,9 @@ use native.Mathlib.Omega.{arith}
 use lib.ListN.{length, take, replicate}
 use lib.Seq.{length-take-le}
 use lib.IntN.{ℤ, pos}
+use Rattle.base.specs.Lists.{flatMap}
+use Rattle.base.specs.Options.{isSome}
 use Rattle.words.specs.Word.{encoded}
-use Rattle.model.specs.Lists.{flatMap}
-use Rattle.solver.specs.Lists.{isSome}
 use Rattle.listform.specs.Form.{isList, least, codeOf, rowFor, written, countOf, Solved}
 use Rattle.listform.specs.Uses.{SolveRooms, Room}
 

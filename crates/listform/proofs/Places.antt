@@ -4,9 +4,9 @@ use mathlib.Core.List.{List}
 use Prim.Native.Nat.{ℕ, _+_, _*_, _<_}
 use lib.ListN.{length, getD}
 use lib.IntN.{pos}
+use Rattle.base.specs.Lists.{at}
+use Rattle.base.proofs.Places.{tabulate-length, tabulate-at}
 use Rattle.words.specs.Word.{valueAt}
-use Rattle.zone.specs.Matrix.{at}
-use Rattle.zone.proofs.Matrix.{tabulate-length, tabulate-at}
 use Rattle.listform.specs.Form.{bytesAt, valuesAt}
 
 module _ (s : List ℕ) (from step n : ℕ) where

@@ -10,16 +10,16 @@ use lib.Signed.{leZ}
 use lib.Dec.{T, ltb, leb, le→leb, ltb→lt, lt→ltb}
 use mir.Facts.{and-yes, yes-and}
 use borrow.Author.Tests.{ne-eqb}
+use Rattle.base.specs.Lists.{allOf, pairwise, tabulate, at}
+use Rattle.base.specs.Options.{isSome}
+use Rattle.base.proofs.Tests.{cond-less}
+use Rattle.base.proofs.Places.{all-at, all-tabulated}
 use Rattle.words.specs.Word.{numberOf, signBit, valueAt}
-use Rattle.words.proofs.Tests.{by-less}
-use Rattle.model.specs.Lists.{allOf, pairwise}
 use Rattle.model.specs.Least.{leastRow}
-use Rattle.zone.specs.Matrix.{tabulate, at}
 use Rattle.solver.specs.Solver.{fits, boundsFit, againstFits, comparisonFits}
-use Rattle.solver.specs.Lists.{boundsOf, comparisonsOf, rowOrZeros, isSome}
+use Rattle.solver.specs.Lists.{boundsOf, comparisonsOf, rowOrZeros}
 use Rattle.model.specs.Coded.{opAt, sideOf}
 use Rattle.solver.specs.Uses.{Solves}
-use Rattle.solver.proofs.Progress.{all-at}
 use Rattle.listform.specs.Form.{valuesAt, allBelow, lows, highs, ops, lefts, rights, numbers, Parts, fitting, isList, least, codeOf, Solved}
 use Rattle.listform.proofs.Places.{bytes-length, values-length, values-at}
 
@@ -27,7 +27,7 @@ use Rattle.listform.proofs.Places.{bytes-length, values-length, values-
 value-fits : (s : List ℕ) (k : ℕ) → T (fits (valueAt 4 s k))
 value-fits s k =
     let n = numberOf (take 4 (drop k s)) in
-    by-less n (signBit 4) (pos n) (negsuc (256 ^ 4 - 1 - n)) (λ z. T (fits z))
+    cond-less n (signBit 4) (pos n) (negsuc (256 ^ 4 - 1 - n)) (λ z. T (fits z))
     (λ h. le→leb n 1000000000000000 (omega arith))
     (λ h. yes-and (leb (256 ^ 4 - 1 - n) 999999999999999) true (le→leb (256 ^ 4 - 1 - n) 999999999999999 (omega arith)) tt)
 
@@ -42,10 +42,6 @@ bounds-fit (suc n) f g a b t =
     (bounds-fit n (λ i. f (suc i)) (λ i. g (suc i)) (λ i. a (suc i)) (λ i. b (suc i)) k)
 
 -- ---- comparisons
-all-tabulated : {A : Type 0} (p : A → Bool) (n : ℕ) (f : ℕ → A) → ((i : ℕ) → i < n → T (p (f i))) → T (allOf p (tabulate n f))
-all-tabulated p zero f h = tt
-all-tabulated p (suc n) f h =
-    yes-and (p (f 0)) (allOf p (tabulate n (λ i. f (suc i)))) (h 0 (omega arith)) (all-tabulated p n (λ i. f (suc i)) (λ i l. h (suc i) (omega arith)))
 
 side-fits : (n r : ℕ) (v : ℤ) → r < n + 1 → T (fits v) → T (againstFits n (sideOf r v))
 side-fits n zero v h f = f

@@ -7,9 +7,9 @@ use native.Mathlib.Omega.{arith}
 use lib.ListN.{length, getD, take, drop, set, length-append}
 use lib.Seq.{take-suc, take-all, take-at, length-take-le}
 use lib.IntN.{ℤ, pos}
+use Rattle.base.specs.Lists.{flatMap}
+use Rattle.base.proofs.Lists.{flatMap-append}
 use Rattle.words.specs.Word.{encoded, withValue}
-use Rattle.model.specs.Lists.{flatMap}
-use Rattle.model.proofs.Lists.{flatMap-append}
 
 module _ {A B : Type 0} (f : A → List B) where
   pub flat-more : (xs : List A) (i : ℕ) (d : A) → i < length xs → flatMap (take (i + 1) xs) f ≡ flatMap (take i xs) f ++ f (getD xs i d)

@@ -9,12 +9,12 @@ use lib.ListN.{length, replicate}
 use lib.IntN.{ℤ, pos}
 use lib.Signed.{leZ}
 use lib.Dec.{ltb}
+use Rattle.base.specs.Lists.{allOf, pairwise, flatMap, tabulate, at}
+use Rattle.base.specs.Options.{isSome}
 use Rattle.words.specs.Word.{valueAt, encoded}
-use Rattle.model.specs.Lists.{allOf, pairwise, flatMap}
 use Rattle.model.specs.Tables.{Row}
 use Rattle.model.specs.Least.{leastRow}
-use Rattle.zone.specs.Matrix.{tabulate, at}
-use Rattle.solver.specs.Lists.{boundsOf, comparisonsOf, rowOrZeros, isSome}
+use Rattle.solver.specs.Lists.{boundsOf, comparisonsOf, rowOrZeros}
 
 -- ---- What stands in the bytes
 

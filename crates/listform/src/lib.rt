@@ -5,8 +5,8 @@ ghost use mathlib.Core.List.{_∷_};
 ghost use Prim.Native.Nat.{_+_, _*_, _≤_};
 ghost use lib.ListN.{length};
 ghost use lib.Signed.{leZ};
+ghost use Rattle.base.specs.Lists.{pairwise, flatMap};
 ghost use Rattle.words.specs.Word.{encoded};
-ghost use Rattle.model.specs.Lists.{pairwise, flatMap};
 ghost use Rattle.listform.specs.Form.{bytesAt, valuesAt, allBelow, fitting, Parts, Solved, written, countOf};
 ghost use Rattle.listform.specs.Uses.{BytePlaces, ValuePlaces, Rooms, SolveRooms, Room};
 
@@ -18,12 +18,6 @@ pub const COMPARISONS: usize = 255;
 pub const LIST: usize = 2041;
 
 pub const ANSWER: usize = 129;
-
-fn wide(b: u8) -> usize
-    ensures { λ r. ⌜ r ≡ b ⌝ }
-{
-    b as usize
-}
 
 // The bytes at the places `from`, `from + step` and so on.
 fn bytes(s: &[u8], from: usize, step: usize, out: &mut [u8])
@@ -70,7 +64,7 @@ fn below(s: &[u8], end: usize) -> bool
 {
     let mut i = 0;
     while i < s.len() {
-        if end <= wide(s[i]) {
+        if end <= base::wide(s[i]) {
             return false;
         }
         i += 1;

@@ -11,12 +11,6 @@ ghost use Rattle.listform.specs.Uses.{Room};
 use libc::STDIN_FILENO;
 use libc::STDOUT_FILENO;
 
-fn wide(b: u8) -> usize
-    ensures { λ r. ⌜ r < 256 ⌝ }
-{
-    b as usize
-}
-
 // This function and the next two answer whether a further list may follow.
 fn refuse() -> bool {
     let refusal = [2u8; 1];
@@ -48,8 +42,8 @@ fn next_list() -> bool {
     if got < 2 {
         return refuse();
     }
-    let n = wide(head[0]);
-    let m = wide(head[1]);
+    let n = base::wide(head[0]);
+    let m = base::wide(head[1]);
     if n == 0 {
         return refuse();
     }

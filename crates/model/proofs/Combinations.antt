@@ -11,11 +11,12 @@ use lib.IntN.{pos}
 use lib.Signed.{leZ}
 use mir.Facts.{and-yes, yes-and}
 use lib.Dec.{T, ltb, ltb→lt, nltb→le}
+use Rattle.base.specs.Lists.{_∈_, allOf, concat, isEmpty, flatMap}
+use Rattle.base.proofs.Lists.{pairwise-length, pairwise-append, pairwise-split, flatMap-has, has-flatMap, flatMap-nil}
+use Rattle.base.proofs.Tests.{T-is}
 use Rattle.words.proofs.Order.{leZ-refl}
-use Rattle.model.specs.Lists.{_∈_, allOf, concat, isEmpty, flatMap}
 use Rattle.model.specs.Tables.{Table, Row, TableRow, value, tableOf, partOf, inside, within, Database, WithinBounds, combinations, columnsOf, after}
 use Rattle.model.specs.WellFormed.{tableFormed}
-use Rattle.model.proofs.Lists.{pairwise-length, pairwise-append, pairwise-split, T-is, flatMap-has, has-flatMap, flatMap-nil}
 
 abbrev pub lows : Table → TableRow
 lows b = map (λ c. c .lo) b

@@ -4,14 +4,14 @@ use mathlib.Core.Path.{_≡_, refl}
 use mathlib.Core.Bool.{not}
 use mir.Facts.{yes-and}
 use lib.Dec.{T, T-not}
+use Rattle.model.proofs.Formed.{JobFormed}
+use Rattle.base.proofs.Tests.{stable}
 use Rattle.model.specs.Tables.{Row, Job, Database, within, uses, combinations}
 use Rattle.model.specs.Rows.{sameRow}
 use Rattle.model.specs.Verdict.{columns, witness2, witness3, witness4, kind1, kind2, kind3, kind4, kindOf, answer, meetsExtract, meetsQuery}
-use Rattle.model.proofs.Lists.{stable}
 use Rattle.model.proofs.Rows.{has-some, has-two, same-row-is}
 use Rattle.model.proofs.Verdict.{Alike, has-witness3, has-witness4, NoKind, kind-0, tables-same, same-uses}
 use Rattle.model.proofs.Combinations.{combinations-cong}
-use Rattle.model.proofs.Scope.{JobFormed}
 
 module _ (j : Job) (formed : JobFormed j) (kind0 : kindOf j ≡ 0) where
   none-applies : NoKind (kind1 j) (kind2 j) (kind3 j) (kind4 j)

@@ -9,17 +9,19 @@ use native.Mathlib.Omega.{arith}
 use lib.ListN.{length, getD}
 use mir.Facts.{and-yes, or-yes}
 use lib.Dec.{T, T-not}
+use Rattle.model.proofs.Formed.{JobFormed}
+use Rattle.base.specs.Lists.{_∈_, SameSet}
+use Rattle.base.proofs.Lists.{same-is, one-none}
+use Rattle.base.proofs.Tests.{T-is, not-is}
 use Rattle.words.specs.Compare.{more}
-use Rattle.model.specs.Lists.{_∈_, SameSet}
 use Rattle.model.specs.Tables.{Row, OutputRow, Job, Database, WithinBounds, within, uses, partOf, rowsOf}
 use Rattle.model.specs.Rows.{someRow, sameRow}
 use Rattle.model.specs.Verdict.{usesOther, columns, tablesDiffer, witness2, witness3, witness4, kind1, kind2, kind3, kind4, kindOf, extractRows, queryRows, Apart, AtMostOneRow, Evidence, answer, meetsExtract, stored, meetsQuery}
 use Rattle.model.specs.Pair.{rowDatabase, reducedDatabase, emptyDatabase}
-use Rattle.model.proofs.Lists.{T-is, not-is, same-is, one-none}
 use Rattle.model.proofs.Rows.{some-has, two-has, is-same-row}
 use Rattle.model.proofs.Verdict.{Alike, witness3-has, witness4-has, kind-any}
 use Rattle.model.proofs.Combinations.{part-within}
-use Rattle.model.proofs.Scope.{JobFormed, other-used, rows-none, rows-empty, rows-one, rows-cong, none-other}
+use Rattle.model.proofs.Scope.{other-used, rows-none, rows-empty, rows-one, rows-cong, none-other}
 
 nothing : (b : Bool) → _≡_ {A = List OutputRow} (cond b [] []) []
 nothing true = refl

@@ -12,13 +12,14 @@ use lib.IntN.{ℤ}
 use lib.Signed.{leZ, ltZ}
 use mir.Facts.{and-yes, yes-and}
 use lib.Dec.{T, T-not, not-T}
+use Rattle.base.specs.Lists.{_∈_, allOf, filter}
+use Rattle.base.proofs.Lists.{pairwise-refl, pairwise-length, filter-has, has-filter, find-some, find-none}
+use Rattle.base.proofs.Tests.{stable}
 use Rattle.words.specs.Compare.{Op, less, atMost, equal, atLeast, more, holds}
 use Rattle.words.proofs.Order.{eqZ-is, eqZ-refl, leZ-refl, leZ-trans, leZ-ltZ-trans, leZ-antisym, nleZ-le}
-use Rattle.model.specs.Lists.{_∈_, allOf, filter}
 use Rattle.model.specs.Tables.{Bounds, Row, Against, column, number, Comparison, value, operand, comparisonHolds, clauseHolds, inside, within, meets}
 use Rattle.model.specs.Rows.{box, someRow}
 use Rattle.model.specs.Least.{atMostRow, isLeast, leastRow}
-use Rattle.model.proofs.Lists.{pairwise-refl, pairwise-length, stable, filter-has, has-filter, find-some, find-none}
 use Rattle.model.proofs.Rows.{box-has, has-box, some-has, has-some}
 
 -- ---- the lesser of two values

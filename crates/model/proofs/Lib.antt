@@ -1,8 +1,7 @@
 pub mod Samples
-pub mod Lists
-pub mod Turns
 pub mod Rows
 pub mod Combinations
+pub mod Formed
 pub mod Scope
 pub mod Verdict
 pub mod Computable

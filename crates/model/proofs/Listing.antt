@@ -5,13 +5,13 @@ use mathlib.Core.Bool.{Bool, true, false, not, cond, _&&_}
 use Prim.Native.Nat.{ℕ, _≤_}
 use mir.Facts.{and-yes, yes-and}
 use lib.Dec.{T, eqb, eqb→eq, eqb-refl, leb, leb→le, T-not, not-T}
+use Rattle.base.specs.Lists.{anyOf}
+use Rattle.base.proofs.Tests.{stable}
 use Rattle.words.specs.Compare.{eqZ}
 use Rattle.words.proofs.Order.{eqZ-is, eqZ-refl}
-use Rattle.model.specs.Lists.{anyOf}
 use Rattle.model.specs.Tables.{Row, Job, value, within, uses, tableOf}
 use Rattle.model.specs.Rows.{twoRows}
 use Rattle.model.specs.Verdict.{columns, fixed, listingOf, unfixing, meetsExtract, stored}
-use Rattle.model.proofs.Lists.{stable}
 use Rattle.model.proofs.Rows.{two-has, has-two}
 use Rattle.model.proofs.Verdict.{Alike, unfixing-has, has-unfixing}
 

@@ -8,17 +8,19 @@ use lib.ListN.{length}
 use mathlib.Core.Option.{Option, none, some}
 use mir.Facts.{and-yes, yes-and}
 use lib.Dec.{T, T-not, not-T}
-use Rattle.model.specs.Lists.{_∈_, SameSet, Distinct, flatMap, ifAny, find}
+use Rattle.model.proofs.Formed.{JobFormed}
+use Rattle.base.specs.Lists.{_∈_, SameSet, Distinct, flatMap, find}
+use Rattle.base.specs.Options.{ifAny}
+use Rattle.base.proofs.Lists.{find-some, find-none, flatMap-has, has-flatMap, once-has, has-once, once-distinct}
+use Rattle.base.proofs.Tests.{T-is}
 use Rattle.model.specs.Tables.{Row, OutputRow, Job, Database, WithinBounds, within, uses, combinations, rowsOf, inside, TableRow}
 use Rattle.model.specs.Rows.{box, someRow, sameRow}
 use Rattle.model.specs.Verdict.{columns, kindOf, extractRows, queryRows, answer, meetsExtract, stored, meetsQuery}
 use Rattle.model.specs.Running.{fillOf, standsIn, runOf, MayGive, given}
-use Rattle.model.proofs.Lists.{T-is, find-some, find-none, flatMap-has, has-flatMap, once-has, has-once, once-distinct}
 use Rattle.model.proofs.Rows.{box-has, has-box, some-has, has-some, same-row-is, same-row-refl, is-same-row}
 use Rattle.model.proofs.Verdict.{Alike}
 use Rattle.model.proofs.Combinations.{combinations-within}
 use Rattle.model.proofs.Scope.{rows-has, has-rows, rows-more}
-use Rattle.model.proofs.Scope.{JobFormed}
 use Rattle.model.proofs.Computable.{same-combinations, extract-met, query-met, same-answer}
 
 -- ---- stand-ins

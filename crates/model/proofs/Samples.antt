@@ -8,8 +8,8 @@ use Prim.Native.Nat.{ℕ, zero, suc}
 use lib.IntN.{ℤ, pos, negsuc}
 use lib.ListN.{replicate}
 use lib.Dec.{T, eqb}
+use Rattle.base.specs.Lists.{allOf}
 use Rattle.words.specs.Compare.{Op, less, equal, more}
-use Rattle.model.specs.Lists.{allOf}
 use Rattle.model.specs.Tables.{rowsOf, uses, Row, OutputRow, outputsOf, Table, meets, conditionHolds, clauseHolds, Job, column, Bounds, number, Condition, Expression, Comparison, TableRow, tableOf}
 use Rattle.model.specs.WellFormed.{limited, expressionFormed, conditionLimited, structured, wellFormed}
 use Rattle.model.specs.Rows.{twoRows, valuesOf, someRow}

@@ -1,41 +1,20 @@
 -- What a well-formed expression looks at, and so its rows on a database. Only this file opens conditions and outputs. Assumes nothing.
 use mathlib.Core.Path.{_≡_, refl, sym, _∙_}
-use mathlib.Core.Bool.{Bool, true, false, not, cond, _&&_}
+use mathlib.Core.Bool.{Bool, true, false, not, cond}
 use mathlib.Core.Logic.{_↔_}
 use mathlib.Core.List.{List, [], _∷_, map, Memᴰ·map, Memᴰ·of-map, Memᴰ·cast, List·Memᴰ·head}
 use Prim.Native.Nat.{ℕ, _<_}
 use lib.ListN.{length}
 use mir.Facts.{and-yes}
 use lib.Dec.{T, eqb, ltb, ltb→lt, eqb→eq, eqb-refl, T-not}
-use Rattle.model.specs.Lists.{_∈_, allOf, filter, isEmpty}
-use Rattle.model.specs.Tables.{Table, Row, TableRow, OutputRow, Against, column, number, Comparison, Clause, Condition, Expression, value, operand, comparisonHolds, clauseHolds, conditionHolds, meets, outputsOf, uses, tableOf, partOf, inside, within, Database, WithinBounds, combinations, rowsOf, columnsOf, Job}
-use Rattle.model.specs.WellFormed.{inScope, againstInScope, noRepeats, comparisonFormed, ascending, tableFormed, expressionFormed, structured}
+use Rattle.base.specs.Lists.{_∈_, allOf, filter, isEmpty}
+use Rattle.base.proofs.Lists.{any-has, has-any, all-has, filter-has, has-filter, pairwise-length}
+use Rattle.base.proofs.Tests.{stable}
+use Rattle.model.specs.Tables.{Table, Row, TableRow, OutputRow, Against, column, number, Comparison, Clause, Condition, Expression, value, operand, comparisonHolds, clauseHolds, conditionHolds, meets, outputsOf, uses, tableOf, partOf, inside, within, Database, WithinBounds, combinations, rowsOf, columnsOf}
+use Rattle.model.specs.WellFormed.{inScope, againstInScope, comparisonFormed, tableFormed}
 use Rattle.model.specs.Verdict.{usesOther}
-use Rattle.model.proofs.Lists.{any-has, has-any, all-has, filter-has, has-filter, pairwise-length, stable}
+use Rattle.model.proofs.Formed.{Formed}
 use Rattle.model.proofs.Combinations.{Combines, combinations-within, combinations-combine, combine-combinations, combinations-cong, combinations-more, combinations-none, combinations-one, blend, blend-value}
-
--- ---- what the theorems need of a well-formed expression
-pub record Formed (ts : List Table) (e : Expression) : Type 0 where
-  pub some-table : T (not (isEmpty (e .used)))
-  pub declared : T (allOf (λ t. ltb t (length ts)) (e .used))
-  pub outputs : T (allOf (inScope ts e) (e .outputs))
-  pub condition : T (allOf (allOf (comparisonFormed ts e)) (e .condition))
-
-pub is-formed : (ts : List Table) (e : Expression) → T (expressionFormed ts e) → Formed ts e
-unfolding expressionFormed
-is-formed ts e t =
-    let some = not (isEmpty (e .used)) in
-    let declared = allOf (λ t. ltb t (length ts)) (e .used) in
-    let output = not (isEmpty (e .outputs)) in
-    let outputs = allOf (inScope ts e) (e .outputs) in
-    let condition = allOf (allOf (comparisonFormed ts e)) (e .condition) in
-    let (t₆, k) = and-yes (some && declared && ascending (e .used) && output && outputs && noRepeats (e .outputs)) condition t in
-    let (t₅, n) = and-yes (some && declared && ascending (e .used) && output && outputs) (noRepeats (e .outputs)) t₆ in
-    let (t₄, o) = and-yes (some && declared && ascending (e .used) && output) outputs t₅ in
-    let (t₃, x) = and-yes (some && declared && ascending (e .used)) output t₄ in
-    let (t₂, a) = and-yes (some && declared) (ascending (e .used)) t₃ in
-    let (s, d) = and-yes some declared t₂ in
-    record { some-table = s; declared = d; outputs = o; condition = k }
 
 -- ---- used tables
 module _ (e : Expression) where
@@ -51,7 +30,7 @@ module _ (e : Expression) where
 
   -- at least one table is used
   some-used : (ts : List Table) → Formed ts e → (t : ℕ) × T (uses e t)
-  some-used ts f = go (e .used) (λ t m. member-used m) (f .some-table)
+  some-used ts f = go (e .used) (λ t m. member-used m) (f .some-used)
     where
       go : (us : List ℕ) → ((t : ℕ) → t ∈ us → T (uses e t)) → T (not (isEmpty us)) → (t : ℕ) × T (uses e t)
       go [] h n = absurd n
@@ -173,16 +152,3 @@ pub rows-more : (ts : List Table) (e : Expression) (d f : Database)
 rows-more ts e d f h m =
     let (r, c, t, a) = rows-has ts e d m in
     rw (← a) (has-rows ts e f (combinations-more (uses e) ts d f h c) t)
-
--- ---- a well-formed job taken apart
-pub record JobFormed (j : Job) : Type 0 where
-  pub tables : T (allOf tableFormed (j .tables))
-  pub extract : Formed (j .tables) (j .extract)
-  pub query : Formed (j .tables) (j .query)
-
-pub job-formed : (j : Job) → T (structured j) → JobFormed j
-unfolding structured
-job-formed j t =
-    let (h, q) = and-yes (allOf tableFormed (j .tables) && expressionFormed (j .tables) (j .extract)) (expressionFormed (j .tables) (j .query)) t in
-    let (p, e) = and-yes (allOf tableFormed (j .tables)) (expressionFormed (j .tables) (j .extract)) h in
-    record { tables = p; extract = is-formed (j .tables) (j .extract) e; query = is-formed (j .tables) (j .query) q }

@@ -12,8 +12,11 @@ use borrow.Author.Tests.{ne-eqb}
 use lib.ListN.{length, getD}
 use native.Mathlib.Decide.{ℕ-discrete}
 use lib.Dec.{T, eqb}
+use Rattle.model.specs.Unused.{SameTables, jobOf, usedByEither}
+use Rattle.model.proofs.Formed.{JobFormed, is-formed, job-formed}
+use Rattle.base.specs.Lists.{_∈_, SameSet, Distinct, anyOf, allOf, once, concat, flatMap}
+use Rattle.base.proofs.Lists.{all-has, has-all, any-has, has-any, same-is, same-sym, same-trans}
 use Rattle.words.specs.Compare.{Op, less, atMost, equal, atLeast, more, opOf}
-use Rattle.model.specs.Lists.{_∈_, SameSet, Distinct, anyOf, allOf, once, concat, flatMap}
 use Rattle.model.specs.Tables.{Clause, Against, column, number, comparisonHolds, Bounds, Table, Row, OutputRow, Comparison, Expression, Job, clauseHolds, meets, outputsOf, uses, tableOf, within, Database, WithinBounds, rowsOf, columnsOf, Condition, value, conditionHolds, partOf, TableRow}
 use Rattle.model.specs.Coded.{opAt, numberOfOp, sideOf, sideNumber, sideValue}
 use Rattle.model.specs.WellFormed.{tableFormed, expressionFormed, structured, inScope}
@@ -22,14 +25,13 @@ use Rattle.model.specs.Least.{atMostRow, leastRow}
 use Rattle.model.specs.Verdict.{columns, witness2, witness3, witness4, kindOf, listingOf, extractRows, queryRows, Determined, Apart, Evidence, answer, meetsExtract, stored, meetsQuery, HandedOut, tablesDiffer}
 use Rattle.model.specs.Pair.{rowDatabase, reducedDatabase, emptyDatabase}
 use Rattle.model.specs.Running.{fillOf, runOf, MayGive, given}
-use Rattle.model.proofs.Lists.{all-has, has-all, any-has, has-any, same-is, same-sym, same-trans}
 use Rattle.model.proofs.Rows.{some-has, has-some, two-has, has-two}
 use Rattle.model.proofs.Least as least
 use Rattle.model.proofs.Verdict.{never-met}
 use Rattle.model.proofs.Running as running
-use Rattle.model.proofs.Scope.{JobFormed, is-formed, job-formed, same-meets, same-outputs, rows-are, rows-cong}
+use Rattle.model.proofs.Scope.{same-meets, same-outputs, rows-are, rows-cong}
 use Rattle.model.proofs.Evidence as found
-use Rattle.model.proofs.Unused.{SameTables, jobOf, used, same-kind, same-listing}
+use Rattle.model.proofs.Unused.{same-kind, same-listing}
 use Rattle.model.proofs.Listing.{listing-0, listing-1, listing-2, listing-most}
 
 -- ---- what the searches over all rows, conditions and an expression's rows mean
@@ -66,14 +68,14 @@ module _ (ts : List Table) (e : Expression) (formed : T (expressionFormed ts e))
   pub other-columns : (r s : Row) → ((c : ℕ) → T (inScope ts e c) → value r c ≡ value s c) → (meets e r ≡ meets e s) × (outputsOf e r ≡ outputsOf e s)
   other-columns r s alike = let f = is-formed ts e formed in (same-meets ts e r s alike f, same-outputs ts e r s alike f)
 
-  -- its rows are the outputs of every row within bounds that meets the condition and whose part in each used table is a row of that table
+  -- its rows are the outputs of every row within bounds that meets the condition and whose part in each usedByEither table is a row of that table
   pub expression-rows : (d : Database) → T (allOf tableFormed ts) → WithinBounds ts d → (o : OutputRow)
       → (o ∈ rowsOf ts e d)
       ↔ ((r : Row) × T (within (columnsOf ts) r) × ((t : ℕ) → t < length ts → T (uses e t) → partOf ts r t ∈ d t) × T (meets e r) × (outputsOf e r ≡ o))
   expression-rows d f w o = rows-are ts e d f (is-formed ts e formed) w o
 
 -- a table that neither expression uses plays no part in the verdict: whatever bounds its columns have, kind and listing are the same
-pub unused-tables : (ts us : List Table) (e q : Expression) → T (structured (jobOf ts e q)) → T (structured (jobOf us e q)) → SameTables (used e q) ts us
+pub unused-tables : (ts us : List Table) (e q : Expression) → T (structured (jobOf ts e q)) → T (structured (jobOf us e q)) → SameTables (usedByEither e q) ts us
     → (kindOf (jobOf us e q) ≡ kindOf (jobOf ts e q)) × ((c : ℕ) → c < length (columnsOf ts) → listingOf (jobOf us e q) c ≡ listingOf (jobOf ts e q) c)
 unused-tables ts us e q f g same =
     let a = job-formed (jobOf ts e q) f in
@@ -146,7 +148,7 @@ module _ (j : Job) (formed : T (structured j)) where
       → SameSet (runOf j ss) (queryRows j d) × Distinct (runOf j ss)
   run-lists k d w ss s = (running.run-same j job k d w ss s, running.run-distinct j ss)
 
--- ---- 4. Filling lists the extract's rows on a database, each once, from any ranges that hold the rows of the used tables
+-- ---- 4. Filling lists the extract's rows on a database, each once, from any ranges that hold the rows of the usedByEither tables
 
 module _ (j : Job) where
   pub fill-lists : (d : Database) (ranges : ℕ → List TableRow)
@@ -237,6 +239,15 @@ op-number atMost = refl
 op-number equal = refl
 op-number atLeast = refl
 op-number more = refl
+
+-- and back
+pub op-back : (n : ℕ) → n ≤ 4 → numberOfOp (opAt n) ≡ n
+op-back zero h = refl
+op-back (suc zero) h = refl
+op-back (suc (suc zero)) h = refl
+op-back (suc (suc (suc zero))) h = refl
+op-back (suc (suc (suc (suc zero)))) h = refl
+op-back (suc (suc (suc (suc (suc n))))) h = absurd (omega arith)
 
 pub side-number : (a : Against) → sideOf (sideNumber a) (sideValue a) ≡ a
 side-number (column c) = rw (ne-eqb (suc c) 0 (λ e. omega arith), sub-one)

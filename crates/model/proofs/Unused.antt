@@ -1,6 +1,6 @@
 -- Columns of tables that no expression uses play no part in the kind and the listing: other bounds there change neither. Assumes nothing.
 use mathlib.Core.Path.{_≡_, refl, sym, _∙_}
-use mathlib.Core.Bool.{Bool, true, false, not, cond, _||_}
+use mathlib.Core.Bool.{Bool, true, false, not, cond}
 use mathlib.Core.List.{List, [], _∷_}
 use Prim.Native.Nat.{ℕ, zero, _-_, _<_}
 use native.Mathlib.Omega.{arith}
@@ -8,24 +8,20 @@ use lib.ListN.{length, take, drop, length-append}
 use lib.Signed.{leZ}
 use mir.Facts.{and-yes, yes-and}
 use lib.Dec.{T, ltb, ltb→lt, eqb}
-use Rattle.words.proofs.Tests.{same-test}
-use Rattle.model.specs.Lists.{allOf, anyOf, concat, isEmpty}
-use Rattle.model.specs.Tables.{Table, Row, Expression, Job, columnsOf, tableOf, uses, meets, outputsOf, value, inside, within, after}
+use Rattle.model.proofs.Formed.{JobFormed}
+use Rattle.base.specs.Lists.{allOf, anyOf, concat, isEmpty}
+use Rattle.base.proofs.Lists.{pairwise-length, pairwise-append, pairwise-split}
+use Rattle.base.proofs.Tests.{same-test, or-left, or-right}
+use Rattle.model.specs.Tables.{Table, Row, Expression, columnsOf, tableOf, uses, meets, outputsOf, value, inside, within, after}
 use Rattle.model.specs.WellFormed.{inScope, tableFormed}
 use Rattle.model.specs.Rows.{someRow, twoRows}
+use Rattle.model.specs.Unused.{SameTables, jobOf, usedByEither}
 use Rattle.model.specs.Verdict.{tablesDiffer, alikeInExtract, witness2, witness3, witness4, kind1, kind2, kind3, kind4, kindOf, unfixing, fixed, listingOf}
-use Rattle.model.proofs.Lists.{or-left, or-right, pairwise-length, pairwise-append, pairwise-split}
 use Rattle.model.proofs.Rows.{some-has, has-some, two-has, has-two}
 use Rattle.model.proofs.Combinations.{blend, blend-value, lows, lows-within}
-use Rattle.model.proofs.Scope.{JobFormed, same-meets, same-outputs}
+use Rattle.model.proofs.Scope.{same-meets, same-outputs}
 
--- ---- tables with as many columns each, and with the same bounds in those that u names
-abbrev pub SameTables : (ℕ → Bool) → List Table → List Table → Type 0
-SameTables u [] [] = Unit {0}
-SameTables u [] (c ∷ cs) = ⊥
-SameTables u (b ∷ bs) [] = ⊥
-SameTables u (b ∷ bs) (c ∷ cs) = (length c ≡ length b) × (T (u zero) → c ≡ b) × SameTables (after u) bs cs
-
+-- ---- the same tables, where u says so
 tables-back : (u : ℕ → Bool) (bs cs : List Table) → SameTables u bs cs → SameTables u cs bs
 tables-back u [] [] s = s
 tables-back u [] (c ∷ cs) s = absurd s
@@ -62,28 +58,21 @@ moved-within u (b ∷ bs) (c ∷ cs) r (n, e, s) f w =
     front false e p h = lows-within c ((and-yes (not (isEmpty c)) (allOf (λ x. leZ (x .lo) (x .hi)) c) p) .1)
 
 -- ---- two jobs that differ in such tables alone
-abbrev pub jobOf : List Table → Expression → Expression → Job
-jobOf ts e q = record { tables = ts; extract = e; query = q }
-
--- the tables that an expression uses
-abbrev pub used : Expression → Expression → ℕ → Bool
-used e q t = uses e t || uses q t
-
-module _ (ts us : List Table) (e q : Expression) (f : JobFormed (jobOf ts e q)) (g : JobFormed (jobOf us e q)) (same : SameTables (used e q) ts us) where
+module _ (ts us : List Table) (e q : Expression) (f : JobFormed (jobOf ts e q)) (g : JobFormed (jobOf us e q)) (same : SameTables (usedByEither e q) ts us) where
   abbrev moved : Row → Row
-  moved r = blend (used e q) us r
+  moved r = blend (usedByEither e q) us r
 
   module _ (r : Row) (w : T (within (columnsOf ts) r)) where
     inside-too : T (within (columnsOf us) (moved r))
-    inside-too = moved-within (used e q) ts us r same (g .tables) w
+    inside-too = moved-within (usedByEither e q) ts us r same (g .tables) w
 
-    same-value : (c : ℕ) → c < length (columnsOf ts) → T (used e q (tableOf ts c)) → value (moved r) c ≡ value r c
+    same-value : (c : ℕ) → c < length (columnsOf ts) → T (usedByEither e q (tableOf ts c)) → value (moved r) c ≡ value r c
     same-value c lt u =
-        let long = tables-long (used e q) ts us same in
-        blend-value (used e q) us r c (pairwise-length inside (columnsOf ts) r w ∙ sym long) (omega arith) (rw (tables-of (used e q) ts us same c) u)
+        let long = tables-long (usedByEither e q) ts us same in
+        blend-value (usedByEither e q) us r c (pairwise-length inside (columnsOf ts) r w ∙ sym long) (omega arith) (rw (tables-of (usedByEither e q) ts us same c) u)
 
     -- what an expression that uses some of them looks at
-    seen : (x : Expression) → ((t : ℕ) → T (uses x t) → T (used e q t)) → (c : ℕ) → T (inScope ts x c) → value (moved r) c ≡ value r c
+    seen : (x : Expression) → ((t : ℕ) → T (uses x t) → T (usedByEither e q t)) → (c : ℕ) → T (inScope ts x c) → value (moved r) c ≡ value r c
     seen x h c t =
         let (lt, u) = and-yes (ltb c (length (columnsOf ts))) (uses x (tableOf ts c)) t in
         same-value c (ltb→lt c (length (columnsOf ts)) lt) (h (tableOf ts c) u)
@@ -130,7 +119,7 @@ module _ (ts us : List Table) (e q : Expression) (f : JobFormed (jobOf ts e q)) 
   unfolding kind4 witness4 alikeInExtract
   kind-4-moved = two-moved (witness4 (jobOf ts e q)) (λ r s v w. let (a, b) = query-seen r v in let (c, d) = query-seen s w in rw (alike-moved r s v w, a, b, c, d))
 
-  pub unfixed-moved : (c : ℕ) → c < length (columnsOf ts) → T (used e q (tableOf ts c)) → T (twoRows (columnsOf ts) (unfixing (jobOf ts e q) c))
+  pub unfixed-moved : (c : ℕ) → c < length (columnsOf ts) → T (usedByEither e q (tableOf ts c)) → T (twoRows (columnsOf ts) (unfixing (jobOf ts e q) c))
       → T (twoRows (columnsOf us) (unfixing (jobOf us e q) c))
   unfolding unfixing alikeInExtract
   unfixed-moved c lt u = two-moved (unfixing (jobOf ts e q) c) (λ r s v w. rw (alike-moved r s v w, same-value r v c lt u, same-value s w c lt u))
@@ -139,9 +128,9 @@ module _ (ts us : List Table) (e q : Expression) (f : JobFormed (jobOf ts e q)) 
 abbrev listedBy : Bool → Bool → Bool → ℕ
 listedBy used stored unfixed = cond (not used) 0 (cond stored 1 (cond (not unfixed) 2 3))
 
-module _ (ts us : List Table) (e q : Expression) (f : JobFormed (jobOf ts e q)) (g : JobFormed (jobOf us e q)) (same : SameTables (used e q) ts us) where
-  back : SameTables (used e q) us ts
-  back = tables-back (used e q) ts us same
+module _ (ts us : List Table) (e q : Expression) (f : JobFormed (jobOf ts e q)) (g : JobFormed (jobOf us e q)) (same : SameTables (usedByEither e q) ts us) where
+  back : SameTables (usedByEither e q) us ts
+  back = tables-back (usedByEither e q) ts us same
 
   pub same-kind : kindOf (jobOf us e q) ≡ kindOf (jobOf ts e q)
   unfolding kindOf
@@ -154,15 +143,15 @@ module _ (ts us : List Table) (e q : Expression) (f : JobFormed (jobOf ts e q)) 
 
   pub same-listing : (c : ℕ) → c < length (columnsOf ts) → listingOf (jobOf us e q) c ≡ listingOf (jobOf ts e q) c
   unfolding listingOf fixed
-  same-listing c lt = rw (tables-of (used e q) ts us same c) (go (uses e (tableOf ts c)) refl)
+  same-listing c lt = rw (tables-of (usedByEither e q) ts us same c) (go (uses e (tableOf ts c)) refl)
     where
       go : (a : Bool) → uses e (tableOf ts c) ≡ a
           → listedBy a (anyOf (eqb c) (e .outputs)) (twoRows (columnsOf us) (unfixing (jobOf us e q) c))
           ≡ listedBy a (anyOf (eqb c) (e .outputs)) (twoRows (columnsOf ts) (unfixing (jobOf ts e q) c))
       go false u = refl
       go true u =
-          let t : T (used e q (tableOf ts c)) = rw u tt in
-          let k : c < length (columnsOf us) = let n = tables-long (used e q) ts us same in omega arith in
-          let v : T (used e q (tableOf us c)) = rw (tables-of (used e q) ts us same c) t in
+          let t : T (usedByEither e q (tableOf ts c)) = rw u tt in
+          let k : c < length (columnsOf us) = let n = tables-long (usedByEither e q) ts us same in omega arith in
+          let v : T (usedByEither e q (tableOf us c)) = rw (tables-of (usedByEither e q) ts us same c) t in
           rw (same-test (twoRows (columnsOf us) (unfixing (jobOf us e q) c)) (twoRows (columnsOf ts) (unfixing (jobOf ts e q) c))
           (unfixed-moved us ts e q g f back c k v) (unfixed-moved ts us e q f g same c lt t))

@@ -5,12 +5,11 @@ use Prim.Native.Nat.{ℕ, zero}
 use native.Mathlib.Omega.{arith}
 use mir.Facts.{and-yes, yes-and}
 use lib.Dec.{T, T-not, not-T}
+use Rattle.base.proofs.Tests.{same-test, or-left, or-right}
 use Rattle.words.specs.Compare.{eqZ}
-use Rattle.words.proofs.Tests.{same-test}
 use Rattle.model.specs.Tables.{Row, Job, value, within, uses}
 use Rattle.model.specs.Rows.{someRow, sameRow}
 use Rattle.model.specs.Verdict.{usesOther, columns, tablesDiffer, witness2, witness3, witness4, kind1, kind2, kind3, kind4, kindOf, unfixing, answer, meetsExtract, stored, meetsQuery, firstKind, alikeInExtract}
-use Rattle.model.proofs.Lists.{or-left, or-right}
 use Rattle.model.proofs.Rows.{some-has, has-some, two-has, same-row-is, is-same-row}
 use Rattle.model.proofs.Scope.{none-other}
 

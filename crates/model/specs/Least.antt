@@ -3,7 +3,7 @@ use mathlib.Core.Bool.{Bool, not, _&&_}
 use mathlib.Core.List.{List}
 use mathlib.Core.Option.{Option}
 use lib.Signed.{leZ}
-use Rattle.model.specs.Lists.{find, pairwise}
+use Rattle.base.specs.Lists.{find, pairwise}
 use Rattle.model.specs.Tables.{Bounds, Row, Comparison, clauseHolds}
 use Rattle.model.specs.Rows.{box, someRow}
 

@@ -1,4 +1,3 @@
-pub mod Lists
 pub mod Tables
 pub mod Coded
 pub mod WellFormed
@@ -7,3 +6,4 @@ pub mod Least
 pub mod Verdict
 pub mod Pair
 pub mod Running
+pub mod Unused

@@ -3,19 +3,18 @@ use mathlib.Core.Path.{_≡_, refl, sym, ap, _∙_}
 use mathlib.Core.Bool.{false}
 use Prim.Native.Nat.{ℕ}
 use native.Mathlib.Omega.{arith}
-use lib.Dec.{T, leb→le}
+use lib.Dec.{T}
 use mir.Facts.{and-yes}
-use Rattle.words.proofs.Tests.{same-test}
+use Rattle.base.proofs.Tests.{same-test, T-is}
 use Rattle.model.specs.Tables as model
 use Rattle.model.specs.WellFormed.{wellFormed}
-use Rattle.model.proofs.Lists.{T-is}
+use Rattle.model.proofs.Formed.{well-formed}
 use Rattle.job.specs.declared.Job.{Job}
 use Rattle.job.specs.Meaning.{meaningOf, recordOf}
 use Rattle.job.specs.Same.{sameJob}
 use Rattle.job.proofs.Meaning.{meaning-record}
 use Rattle.job.proofs.Equal.{same-is, same-self}
 use Rattle.layout.specs.Reading.{Reading, accepted, refused, readOf}
-use Rattle.layout.proofs.Written.{parts}
 use Rattle.layout.proofs.Theorems as layout
 use Rattle.codec.specs.declared.Decoded.{Decoded}
 use Rattle.codec.specs.declared.Answer.the-variants.{Whole, Refused}
@@ -23,7 +22,7 @@ use Rattle.codec.specs.Answers.{decodedOf}
 use Rattle.pobghine.specs.Records.{isRead, bytesOf}
 
 pub meaning-back : (j : model.Job) → T (wellFormed j) → meaningOf (recordOf j) ≡ j
-meaning-back j w = meaning-record j (leb→le _ _ (parts j w .few-tables))
+meaning-back j w = meaning-record j (well-formed j w .limits .few-tables)
 
 pub judged-is : (r : Job) → T (isRead r) → T (wellFormed (meaningOf r)) × (recordOf (meaningOf r) ≡ r)
 unfolding isRead

@@ -8,12 +8,12 @@ use lib.ListN.{length, drop}
 use lib.Dec.{T}
 use mir.Facts.{and-yes}
 use borrow.Author.Tests.{le-leb}
-use Rattle.words.proofs.Words.{Bytes}
+use Rattle.base.specs.Bytes.{Bytes}
+use Rattle.base.proofs.Tests.{T-is}
 use Rattle.model.specs.Tables as model
 use Rattle.model.specs.WellFormed.{structured, limited, wellFormed}
 use Rattle.model.specs.Verdict.{kindOf, Determined, Apart, Evidence}
 use Rattle.model.proofs.Theorems.{computable-is, not-computable-is}
-use Rattle.model.proofs.Lists.{T-is}
 use Rattle.job.specs.declared.Job.{Job}
 use Rattle.job.specs.Record.{Tidy}
 use Rattle.job.specs.Meaning.{meaningOf, recordOf}

@@ -9,7 +9,7 @@ use native.Mathlib.Omega.{arith}
 use lib.ListN.{length, length-append}
 use lib.Dec.{ltb}
 use borrow.Author.Tests.{ltb-true, ltb-false}
-use Rattle.model.specs.Lists.{_∈_}
+use Rattle.base.specs.Lists.{_∈_}
 use Rattle.report.specs.Text.{written, digits}
 
 -- ---- by the last digit

@@ -1,7 +1,7 @@
 -- A list is its elements, each put by itself. Assumes nothing.
 use mathlib.Core.Path.{_≡_, refl, ap}
 use mathlib.Core.List.{List, [], _∷_}
-use Rattle.model.specs.Lists.{flatMap}
+use Rattle.base.specs.Lists.{flatMap}
 
 module _ {A : Type 0} where
   abbrev pub itself : A → List A

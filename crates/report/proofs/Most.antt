@@ -1,9 +1,9 @@
 -- How long the texts are at most, so that there is room for each. Assumes nothing.
 use mathlib.Core.List.{List, [], _∷_, _++_}
-use Prim.Native.Nat.{ℕ, suc, _+_, _*_, _≤_, _<_}
+use Prim.Native.Nat.{ℕ, suc, _*_, _≤_, _<_}
 use native.Mathlib.Omega.{arith}
 use lib.ListN.{length, getD, length-append}
-use Rattle.model.specs.Lists.{flatMap}
+use Rattle.base.specs.Lists.{flatMap}
 use Rattle.report.specs.Text.{ascii, digits, field, refusalText, verdictText}
 use Rattle.report.proofs.Digits.{digits-few}
 

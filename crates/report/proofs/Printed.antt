@@ -5,16 +5,16 @@ use Prim.Native.Nat.{ℕ, _≤_}
 use native.Mathlib.Omega.{arith}
 use lib.ListN.{length, take, length-map}
 use lib.Seq.{take-append-seam}
-use lib.Dec.{T, leb→le}
+use lib.Dec.{T}
+use Rattle.base.specs.Arrays.{padded}
+use Rattle.base.proofs.Tests.{T-is}
 use Rattle.model.specs.Tables as model
 use Rattle.model.specs.WellFormed.{wellFormed}
+use Rattle.model.proofs.Formed.{well-formed}
 use Rattle.model.specs.Verdict.{columns}
-use Rattle.model.proofs.Lists.{T-is}
 use Rattle.job.specs.declared.Job.{Job}
-use Rattle.job.specs.Record.{padded}
 use Rattle.job.specs.Meaning.{recordOf}
 use Rattle.layout.specs.Reading.{Reading, accepted, refused, readOf}
-use Rattle.layout.proofs.Written.{parts}
 use Rattle.layout.proofs.Theorems.{read-formed, read-enough}
 use Rattle.codec.specs.declared.Answer.{Answer}
 use Rattle.codec.specs.declared.Answer.the-variants as read
@@ -85,7 +85,7 @@ unfolding recordOf
 few-read s = go (readOf s) refl
   where
     go : (x : Reading) → readOf s ≡ x → decodedOf x .job .width ≤ 16
-    go (accepted j) e = leb→le _ 16 (parts j (read-formed s j e) .few-columns)
+    go (accepted j) e = well-formed j (read-formed s j e) .limits .few-columns
     go (refused n at) e = omega arith
 
 -- ---- the first 600 bytes tell what is printed

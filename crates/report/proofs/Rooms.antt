@@ -4,7 +4,7 @@ use mathlib.Core.List.{List, _++_}
 use Prim.Native.Nat.{ℕ, _≤_}
 use native.Mathlib.Omega.{arith}
 use lib.ListN.{length, drop, length-append}
-use Rattle.model.specs.Lists.{flatMap}
+use Rattle.base.specs.Lists.{flatMap}
 use Rattle.codec.specs.Puts.{Room, Puts}
 use Rattle.codec.proofs.Puts.{room-first, room-next, put-first}
 use Rattle.report.specs.Text.{ascii, field, refusalText, verdictText}

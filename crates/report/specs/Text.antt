@@ -3,7 +3,7 @@ use mathlib.Core.List.{List, [], _∷_, _++_}
 use Prim.Native.Nat.{ℕ, zero, suc, _+_, _/_, _%_}
 use Prim.Native.Char.{code}
 use Prim.Native.String.{String, [] as done, _∷_ as _then_}
-use Rattle.model.specs.Lists.{flatMap}
+use Rattle.base.specs.Lists.{flatMap}
 
 -- a text's bytes: it has characters of ASCII only, of one byte each
 abbrev pub ascii : String → List ℕ

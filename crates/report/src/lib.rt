@@ -3,7 +3,7 @@ ghost use mathlib.Core.Path.{_≡_};
 ghost use mathlib.Core.List.{[], _∷_, _++_};
 ghost use Prim.Native.Nat.{_≤_};
 ghost use lib.ListN.{length, drop};
-ghost use Rattle.model.specs.Lists.{flatMap};
+ghost use Rattle.base.specs.Lists.{flatMap};
 ghost use Rattle.codec.specs.Puts.{Room, Puts};
 ghost use Rattle.report.specs.Text.{digits, field, refusalText, verdictText};
 ghost use Rattle.report.specs.Printed.{printed, recordText};

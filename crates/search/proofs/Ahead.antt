@@ -7,8 +7,8 @@ use native.Mathlib.Omega.{arith}
 use lib.ListN.{length, getD, drop, length-map, List·getD-map}
 use lib.Seq.{length-take-le, getD-take}
 use borrow.Author.Tests.{not-true, not-false}
-use Rattle.model.specs.Lists.{anyOf, allOf}
-use Rattle.model.proofs.Turns.{all-fails, all-more, all-done, any-here, any-more, any-done}
+use Rattle.base.specs.Lists.{anyOf, allOf}
+use Rattle.base.proofs.Turns.{all-fails, all-more, all-done, any-here, any-more, any-done}
 use Rattle.zone.specs.declared.Constraint.{Constraint}
 use Rattle.zone.specs.Zone.{Zone, allows}
 use Rattle.zone.specs.Uses.{Follows}

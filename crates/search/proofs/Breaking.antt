@@ -9,18 +9,19 @@ use native.Mathlib.Omega.{arith}
 use lib.ListN.{length, replicate}
 use lib.Dec.{T, ltb, le→leb, ltb→lt}
 use mir.Facts.{and-yes, yes-and, or-yes}
+use Rattle.solver.specs.Obeying.{ObeysSome}
+use Rattle.base.specs.Lists.{_∈_, anyOf, allOf}
+use Rattle.base.specs.Options.{andThen}
+use Rattle.base.proofs.Lists.{any-has, has-any, all-has, has-all, flatMap-has, any-append, all-append, any-and}
+use Rattle.base.proofs.Tests.{same-test, or-left, or-right, T-is, not-or, not-and}
 use Rattle.words.specs.Bias.{bias}
 use Rattle.words.specs.Compare.{Op, less, atMost, equal, atLeast, more}
-use Rattle.words.proofs.Tests.{same-test}
-use Rattle.model.specs.Lists.{_∈_, anyOf, allOf}
 use Rattle.model.specs.Tables.{Bounds, Row, Comparison, Clause, Condition, comparisonHolds, clauseHolds, conditionHolds, within}
-use Rattle.model.proofs.Lists.{or-left, or-right, T-is, any-has, has-any, all-has, has-all, flatMap-has}
 use Rattle.zone.specs.declared.Constraint.{Constraint}
 use Rattle.zone.specs.Zone.{Zone, level, allows, tightened}
 use Rattle.solver.specs.Comparisons.{nodeOf, addedTo, listOf, against, negationsOf}
-use Rattle.solver.specs.Solver.{boundsFit, againstFits, comparisonFits, nodes, andThen}
-use Rattle.solver.proofs.Lists.{any-append, all-append, any-and, not-or}
-use Rattle.solver.proofs.Comparisons.{ObeysSome, not-and, added-most}
+use Rattle.solver.specs.Solver.{boundsFit, againstFits, comparisonFits, nodes}
+use Rattle.solver.proofs.Comparisons.{added-most}
 use Rattle.solver.proofs.Solver.{node-in}
 use Rattle.solver.proofs.Theorems.{negations-say}
 use Rattle.search.specs.Search.{waysOf, free, choicesOf, breakable, chosen, broken, outside}

@@ -8,7 +8,7 @@ use native.Mathlib.Omega.{arith}
 use lib.ListN.{length}
 use lib.Dec.{T}
 use borrow.Author.Tests.{not-true, not-false}
-use Rattle.model.specs.Lists.{allOf}
+use Rattle.base.specs.Lists.{allOf}
 use Rattle.zone.specs.declared.Constraint.{Constraint}
 use Rattle.zone.specs.Zone.{Zone, allows, tightened, constrained, kept}
 use Rattle.zone.specs.Array.{zoneIn, laid}

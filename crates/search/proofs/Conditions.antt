@@ -6,14 +6,14 @@ use Prim.Native.Nat.{ℕ, _+_, _<_, _≤_}
 use native.Mathlib.Omega.{arith}
 use lib.ListN.{length, getD, drop}
 use lib.Dec.{T}
-use Rattle.model.specs.Lists.{allOf}
+use Rattle.base.specs.Lists.{allOf}
+use Rattle.base.proofs.Places.{all-at}
 use Rattle.model.specs.Tables as model
 use Rattle.job.specs.declared.Clause.{Clause}
 use Rattle.job.specs.declared.Expression.{Expression}
 use Rattle.job.specs.Meaning.{clauseOf}
 use Rattle.zone.specs.Zone.{Zone}
 use Rattle.solver.specs.Solver.{comparisonFits}
-use Rattle.solver.proofs.Progress.{all-at}
 use Rattle.search.specs.Search.{firstOf}
 use Rattle.search.specs.Records.{conditionOf}
 use Rattle.search.specs.Uses.{Meeting}

@@ -8,10 +8,10 @@ use native.Mathlib.Omega.{arith}
 use lib.ListN.{length, getD, take, set, replicate, length-map, length-append}
 use lib.Seq.{take-suc, take-all, length-take-le}
 use lib.IntN.{pos}
+use Rattle.base.specs.Arrays.{padded}
+use Rattle.base.proofs.Lists.{flatMap-append}
+use Rattle.base.proofs.Arrays.{padded-more}
 use Rattle.model.specs.Tables.{Comparison, Clause, Condition}
-use Rattle.model.proofs.Lists.{flatMap-append}
-use Rattle.job.specs.Record.{padded}
-use Rattle.job.proofs.Padded.{padded-more}
 use Rattle.zone.specs.declared.Constraint.{Constraint}
 use Rattle.solver.specs.declared.Constraints.{Constraints}
 use Rattle.solver.specs.Comparisons.{listOf, negationsOf}

@@ -7,8 +7,8 @@ use Prim.Native.Nat.{ℕ, _+_, _<_, _≤_}
 use native.Mathlib.Numerals.{add-one}
 use lib.ListN.{length, getD, drop, drop-of-length-le}
 use lib.Seq.{drop-cons}
-use Rattle.model.specs.Lists.{_∈_}
-use Rattle.solver.specs.Lists.{isSome}
+use Rattle.base.specs.Lists.{_∈_}
+use Rattle.base.specs.Options.{isSome}
 use Rattle.search.specs.Search.{orElse, firstOf}
 
 -- ---- in a loop: `left` says that what is left of a list gives o

@@ -5,13 +5,12 @@ use mathlib.Core.List.{List}
 use mathlib.Core.Option.{Option, none, some}
 use Prim.Native.Nat.{ℕ, _≤_}
 use lib.ListN.{length}
+use Rattle.base.specs.Options.{andThen, isSome}
 use Rattle.zone.specs.Zone.{Zone, Closed}
 use Rattle.zone.specs.Array.{zoneIn, laid}
 use Rattle.zone.specs.Uses.{InArray}
 use Rattle.zone.proofs.Array.{zone-length, laid-length}
 use Rattle.zone.proofs.Laid.{laid-is, laid-in-array}
-use Rattle.solver.specs.Solver.{andThen}
-use Rattle.solver.specs.Lists.{isSome}
 use Rattle.search.specs.Records.{laidIf}
 
 -- o is a zone of n nodes, which was laid over `old` and lies in e

@@ -8,14 +8,13 @@ use native.Mathlib.Numerals.{add-one}
 use native.Mathlib.Omega.{arith}
 use lib.ListN.{length, getD, take, replicate, length-map, length-append, length-replicate, length-take}
 use lib.Dec.{T}
-use Rattle.model.specs.Lists.{_∈_}
+use Rattle.base.specs.Lists.{_∈_}
+use Rattle.base.proofs.Arrays.{take-padded, getD-padded}
 use Rattle.model.specs.Tables as model
 use Rattle.model.specs.Tables.{Condition}
 use Rattle.job.specs.declared.Clause.{Clause}
 use Rattle.job.specs.declared.Expression.{Expression}
 use Rattle.job.specs.Meaning.{comparisonOf, clauseOf}
-use Rattle.job.proofs.Meaning.{take-padded}
-use Rattle.job.proofs.Padded.{getD-padded}
 use Rattle.zone.specs.declared.Constraint.{Constraint}
 use Rattle.solver.specs.declared.Constraints.{Constraints}
 use Rattle.solver.specs.Comparisons.{listOf, negationsOf}

@@ -7,11 +7,11 @@ use Prim.Native.Nat.{ℕ, suc, _+_, _<_, _≤_}
 use native.Mathlib.Omega.{arith}
 use lib.ListN.{length, getD, drop, drop-of-length-le}
 use lib.Seq.{drop-cons}
+use Rattle.base.specs.Options.{andThen}
 use Rattle.zone.specs.declared.Constraint.{Constraint}
 use Rattle.zone.specs.Zone.{Zone}
 use Rattle.zone.specs.Array.{zoneIn, laid}
 use Rattle.zone.specs.Uses.{InArray}
-use Rattle.solver.specs.Solver.{andThen}
 use Rattle.search.specs.declared.Choices.{Choices}
 use Rattle.search.specs.Search.{firstOf, chosen, broken}
 use Rattle.search.specs.Records.{waysIn, choicesIn}

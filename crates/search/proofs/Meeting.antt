@@ -9,7 +9,9 @@ use native.Mathlib.Numerals.{add-one}
 use lib.ListN.{length, drop}
 use lib.Dec.{T}
 use mir.Facts.{and-yes}
-use Rattle.model.specs.Lists.{allOf}
+use Rattle.solver.specs.Obeying.{ObeysAll}
+use Rattle.base.specs.Lists.{allOf}
+use Rattle.base.specs.Options.{andThen, isSome}
 use Rattle.model.specs.Tables.{Comparison, Clause}
 use Rattle.job.specs.declared.Expression.{Expression}
 use Rattle.job.specs.Meaning.{clauseOf}
@@ -19,9 +21,8 @@ use Rattle.zone.specs.Uses.{InArray}
 use Rattle.zone.proofs.Array.{zone-length, laid-length, laid-laid}
 use Rattle.zone.proofs.Answers.{Answers}
 use Rattle.solver.specs.Comparisons.{listOf, constraintsOf}
-use Rattle.solver.specs.Solver.{comparisonFits, andThen, imposed, imposedAll}
-use Rattle.solver.specs.Lists.{isSome, onward, reached}
-use Rattle.solver.proofs.Comparisons.{ObeysAll}
+use Rattle.solver.specs.Solver.{comparisonFits, imposed, imposedAll}
+use Rattle.solver.specs.Lists.{onward, reached}
 use Rattle.solver.proofs.Solver.{ObeysList, imposed-answers, list-answers}
 use Rattle.solver.proofs.Found.{reached-is}
 use Rattle.search.specs.Search.{byClause}

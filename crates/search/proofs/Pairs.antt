@@ -7,14 +7,14 @@ use Prim.Native.Nat.{ℕ, suc, _<_}
 use lib.ListN.{length}
 use lib.Dec.{T, ltb, lt→ltb}
 use mir.Facts.{yes-and}
+use Rattle.base.specs.Lists.{_∈_, anyOf, allOf}
+use Rattle.base.specs.Options.{andThen, isSome}
+use Rattle.base.proofs.Lists.{all-has}
 use Rattle.words.specs.Compare.{Op, less, equal, more, holds, eqZ}
-use Rattle.model.specs.Lists.{_∈_, anyOf, allOf}
 use Rattle.model.specs.Tables.{Bounds, Row, Condition, value, clauseHolds, conditionHolds}
 use Rattle.model.specs.Rows.{someRow}
-use Rattle.model.proofs.Lists.{all-has}
 use Rattle.zone.specs.Zone.{Zone, canDiffer}
-use Rattle.solver.specs.Solver.{boundsFit, comparisonFits, andThen, imposed, imposedAll}
-use Rattle.solver.specs.Lists.{isSome}
+use Rattle.solver.specs.Solver.{boundsFit, comparisonFits, imposed, imposedAll}
 use Rattle.solver.proofs.Comparisons.{opposites-hold}
 use Rattle.search.specs.Search.{firstOf}
 use Rattle.search.specs.Pairs.{pairsOf, columnsBy, apart, someApart, ifDiffer}

@@ -7,16 +7,15 @@ use mathlib.Core.Option.{Option, none, some}
 use lib.ListN.{length}
 use lib.Dec.{T}
 use mir.Facts.{and-yes, yes-and, or-yes}
-use Rattle.words.proofs.Tests.{same-test}
-use Rattle.model.specs.Lists.{_∈_, anyOf, allOf}
+use Rattle.base.specs.Lists.{_∈_, anyOf, allOf}
+use Rattle.base.specs.Options.{andThen, isSome}
+use Rattle.base.proofs.Lists.{all-has, any-and}
+use Rattle.base.proofs.Tests.{same-test, or-left, or-right}
 use Rattle.model.specs.Tables.{Bounds, Row, Condition, clauseHolds, conditionHolds, within}
 use Rattle.model.specs.Rows.{someRow}
-use Rattle.model.proofs.Lists.{or-left, or-right, all-has}
 use Rattle.model.proofs.Rows.{some-has, has-some}
 use Rattle.zone.specs.Zone.{Zone, leastOf}
-use Rattle.solver.specs.Solver.{boundsFit, comparisonFits, rowOf, andThen, imposedAll}
-use Rattle.solver.specs.Lists.{isSome}
-use Rattle.solver.proofs.Lists.{any-and}
+use Rattle.solver.specs.Solver.{boundsFit, comparisonFits, rowOf, imposedAll}
 use Rattle.search.specs.Search.{orElse, firstOf, met}
 use Rattle.search.specs.Uses.{conditionFits}
 use Rattle.search.proofs.Stands.{Stands, Left, least-stands, clause-left}

@@ -9,17 +9,17 @@ use native.Mathlib.Omega.{arith}
 use lib.ListN.{length}
 use lib.Dec.{T, T-not, not-T, leb, leb→le, le→leb, eqb→eq, eqb-refl}
 use mir.Facts.{and-yes, yes-and}
+use Rattle.solver.specs.Obeying.{ObeysAll}
+use Rattle.base.specs.Lists.{allOf, at}
+use Rattle.base.proofs.Lists.{pairwise-length}
+use Rattle.base.proofs.Tests.{same-test}
 use Rattle.words.specs.Bias.{bias, biased}
 use Rattle.words.specs.Compare.{eqZ}
-use Rattle.words.proofs.Tests.{same-test}
 use Rattle.words.proofs.Biases.{biased-eq}
-use Rattle.model.specs.Lists.{allOf}
 use Rattle.model.specs.Tables.{Bounds, Row, Comparison, Clause, value, comparisonHolds, clauseHolds, within, inside}
 use Rattle.model.specs.Rows.{someRow}
-use Rattle.model.proofs.Lists.{pairwise-length}
 use Rattle.model.proofs.Rows.{some-has, has-some}
 use Rattle.zone.specs.declared.Constraint.{Constraint}
-use Rattle.zone.specs.Matrix.{at}
 use Rattle.zone.specs.Zone.{Zone, level, Meets, Obeys, Closed, allows, tightened, leastOf, canDiffer}
 use Rattle.zone.proofs.Closed.{least-meets, obeyed-allowed, tight-length, tight-closed, tight-meets}
 use Rattle.zone.proofs.Answers.{Answers}
@@ -27,7 +27,7 @@ use Rattle.zone.proofs.Projection.{differ-is}
 use Rattle.solver.specs.Comparisons.{listOf, constraintsOf}
 use Rattle.solver.specs.Solver.{boundsFit, comparisonFits, solvable, nodes, rowOf, boxOf, imposed, imposedAll}
 use Rattle.solver.proofs.Nodes.{within-from, map-at, nodes-length, nodes-closed, row-meets, meets-row}
-use Rattle.solver.proofs.Comparisons.{ObeysAll, comparison-says}
+use Rattle.solver.proofs.Comparisons.{comparison-says}
 use Rattle.solver.proofs.Solver.{ObeysList, list-says, imposed-answers, list-answers}
 
 -- z is closed, and its rows are the rows within bounds that meet p

@@ -3,8 +3,8 @@ use mathlib.Core.List.{List, map}
 use mathlib.Core.Option.{Option, none, some}
 use Prim.Native.Nat.{ℕ}
 use lib.ListN.{length, take}
+use Rattle.base.specs.Arrays.{padded}
 use Rattle.model.specs.Tables.{Condition}
-use Rattle.job.specs.Record.{padded}
 use Rattle.job.specs.declared.Expression.{Expression}
 use Rattle.job.specs.Meaning.{clauseOf}
 use Rattle.zone.specs.declared.Constraint.{Constraint}

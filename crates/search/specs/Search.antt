@@ -2,13 +2,14 @@
 use mathlib.Core.Bool.{Bool, cond, _&&_}
 use mathlib.Core.List.{List, [], _∷_, map}
 use mathlib.Core.Option.{Option, none, some}
-use Rattle.model.specs.Lists.{anyOf, allOf, flatMap}
+use Rattle.base.specs.Lists.{anyOf, allOf, flatMap}
+use Rattle.base.specs.Options.{andThen}
+use Rattle.base.specs.Arrays.{padded}
 use Rattle.model.specs.Tables.{Clause, Condition}
-use Rattle.job.specs.Record.{padded}
 use Rattle.zone.specs.declared.Constraint.{Constraint}
 use Rattle.zone.specs.Zone.{Zone, level, allows, tightened}
 use Rattle.solver.specs.Comparisons.{atMostBy, listOf, negationsOf}
-use Rattle.solver.specs.Solver.{andThen, imposedAll}
+use Rattle.solver.specs.Solver.{imposedAll}
 
 -- ---- The ways in which clauses are broken
 

@@ -5,7 +5,7 @@ use mathlib.Core.List.{List, []}
 use Prim.Native.Nat.{ℕ, _+_, _*_, _<_, _≤_}
 use lib.ListN.{length, getD}
 use lib.Dec.{T}
-use Rattle.model.specs.Lists.{allOf}
+use Rattle.base.specs.Lists.{allOf}
 use Rattle.model.specs.Tables.{Condition}
 use Rattle.job.specs.declared.Clause.{Clause}
 use Rattle.job.specs.declared.Expression.{Expression}

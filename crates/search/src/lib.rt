@@ -2,12 +2,13 @@
 ghost use mathlib.Core.Path.{_≡_};
 ghost use Prim.Native.Nat.{_+_, _≤_};
 ghost use lib.ListN.{drop};
-ghost use Rattle.model.specs.Lists.{allOf};
+ghost use Rattle.base.specs.Lists.{allOf};
+ghost use Rattle.base.specs.Options.{isSome};
 ghost use Rattle.job.specs.Meaning.{clauseOf};
 ghost use Rattle.zone.specs.Zone.{tightened};
 ghost use Rattle.zone.specs.Array.{zoneIn, laid};
 ghost use Rattle.solver.specs.Solver.{imposedAll};
-ghost use Rattle.solver.specs.Lists.{isSome, reached};
+ghost use Rattle.solver.specs.Lists.{reached};
 ghost use Rattle.search.specs.Search.{free, waysOf, choicesOf, breakable, chosen, met, outside};
 ghost use Rattle.search.specs.Records.{waysIn, waysRecord, choicesIn, choicesRecord, conditionOf, laidIf};
 ghost use Rattle.search.specs.Uses.{Small, LooksAfter, LooksAhead, Chooses, ImposesClause, MeetsClause, Meeting, Searches};

@@ -12,13 +12,13 @@ use mir.Facts.{and-yes}
 use mir.Syntax.{w32}
 use mir.Val.{toZ, ofZ}
 use borrow.Author.Tests.{ne-eqb}
+use Rattle.base.specs.Lists.{at}
+use Rattle.base.proofs.Places.{tabulate-length, tabulate-at}
 use Rattle.words.specs.Word.{signBit}
 use Rattle.words.proofs.Stored.{stored}
 use Rattle.words.proofs.Biases.{biased-low, biased-high}
 use Rattle.model.specs.Coded.{opAt, sideOf}
-use Rattle.zone.specs.Matrix.{at}
 use Rattle.zone.specs.Zone.{Zone, level}
-use Rattle.zone.proofs.Matrix.{tabulate-length, tabulate-at}
 use Rattle.solver.specs.Comparisons.{nodeOf, addedTo, between, against, constraintsOf, negationsOf}
 use Rattle.solver.specs.Solver.{againstFits, imposedBy, imposed}
 use Rattle.solver.specs.Lists.{coded, comparisonsOf}

@@ -1,7 +1,7 @@
 -- Comparisons and their constraints: a row of values meets the one where its row of nodes obeys the other. Assumes nothing.
 use mathlib.Core.Path.{_≡_, refl, sym, ap, subst, _∙_}
 use mathlib.Core.Logic.{_↔_, _⊎_, inl, inr, ⊎-elim}
-use mathlib.Core.Bool.{Bool, true, false, not, or-false, Bool·not-not, _&&_, _||_}
+use mathlib.Core.Bool.{Bool, false, not, or-false, Bool·not-not, _&&_, _||_}
 use mathlib.Core.List.{List, [], _∷_}
 use Prim.Native.Nat.{ℕ, suc, _+_, _*_, _<_, _≤_}
 use native.Mathlib.Omega.{arith}
@@ -10,25 +10,20 @@ use lib.IntN.{ℤ, pos, negsuc}
 use lib.Signed.{leZ, ltZ}
 use lib.Dec.{T, ltb, leb→le, le→leb, ltb→lt, lt→ltb, eqb→eq, eqb-refl}
 use mir.Facts.{and-yes, yes-and, or-yes}
+use Rattle.base.specs.Lists.{anyOf, allOf, at}
+use Rattle.base.proofs.Lists.{pairwise-length}
+use Rattle.base.proofs.Tests.{same-test, or-left, or-right, not-and}
 use Rattle.words.specs.Bias.{bias, biased}
 use Rattle.words.specs.Compare.{Op, less, atMost, equal, atLeast, more, holds, eqZ}
-use Rattle.words.proofs.Tests.{same-test}
 use Rattle.words.proofs.Order.{eqZ-is, eqZ-refl, leZ-refl, leZ-antisym, ltZ-not}
 use Rattle.words.proofs.Biases.{FromBias, biased-le, biased-lt, biased-eq}
-use Rattle.model.specs.Lists.{anyOf, allOf}
 use Rattle.model.specs.Tables.{Bounds, Row, Against, column, number, Comparison, value, operand, comparisonHolds, within, inside}
-use Rattle.model.proofs.Lists.{or-left, or-right, pairwise-length}
 use Rattle.zone.specs.declared.Constraint.{Constraint}
-use Rattle.zone.specs.Matrix.{at}
 use Rattle.zone.specs.Zone.{level, Obeys}
+use Rattle.solver.specs.Obeying.{ObeysAll, ObeysSome}
 use Rattle.solver.specs.Comparisons.{nodeOf, addedTo, listOf, between, opposites, against, constraintsOf, negationsOf}
 use Rattle.solver.specs.Solver.{boundsFit, againstFits, comparisonFits, nodes}
 use Rattle.solver.proofs.Nodes.{fit-from, fit-top, within-from, map-at}
-
--- a row of nodes obeys every constraint of a list
-abbrev pub ObeysAll : List Constraint → List ℕ → Type 0
-ObeysAll [] x = Unit {0}
-ObeysAll (c ∷ cs) x = Obeys c x × ObeysAll cs x
 
 -- ---- two values compared, as numbers
 module _ (a b : ℤ) (f : FromBias bias a) (g : FromBias bias b) where
@@ -89,15 +84,6 @@ added-most n (column c) f = omega arith
 added-most n (number v) f = omega (arith, number-added v (fit-from v f), fit-top v f)
 
 -- ---- negation
-
--- a row of nodes obeys some constraint of a list
-abbrev pub ObeysSome : List Constraint → List ℕ → Type 0
-ObeysSome [] x = ⊥
-ObeysSome (c ∷ cs) x = Obeys c x ⊎ ObeysSome cs x
-
-pub not-and : (a b : Bool) → (not a || not b) ≡ not (a && b)
-not-and true b = refl
-not-and false b = refl
 
 leZ-not : (a b : ℤ) → leZ a b ≡ not (ltZ b a)
 leZ-not a b = sym (ap not (ltZ-not b a) ∙ Bool·not-not (leZ a b))

@@ -1,29 +1,24 @@
 -- The solver takes a well-formed job's columns and conditions: they fit, and so do their sizes. Assumes nothing.
 use mathlib.Core.Logic.{_⊎_, inl, inr}
-use mathlib.Core.Bool.{Bool, not, _&&_}
+use mathlib.Core.Bool.{Bool, not}
 use mathlib.Core.List.{List, [], _∷_, List·Memᴰ·not-nil, List·Memᴰ·append-cases}
 use Prim.Native.Nat.{ℕ, _<_, _≤_}
 use lib.ListN.{length}
 use lib.IntN.{ℤ, pos, negsuc}
 use lib.Signed.{leZ}
-use lib.Dec.{T, leb, ltb, leb→le, ltb→lt, lt→ltb}
+use lib.Dec.{T, ltb, ltb→lt, lt→ltb}
 use mir.Facts.{and-yes, yes-and}
+use Rattle.model.proofs.Formed.{Formed, Limited, clause-short, near, well-formed}
+use Rattle.base.specs.Lists.{_∈_, allOf, isEmpty}
+use Rattle.base.proofs.Lists.{all-has, has-all}
 use Rattle.words.specs.Bias.{bias}
 use Rattle.words.proofs.Order.{leZ-trans}
-use Rattle.model.specs.Lists.{_∈_, allOf, isEmpty}
 use Rattle.model.specs.Tables.{Bounds, Table, Against, column, number, Clause, Expression, Job, columnsOf, tableOf, uses}
-use Rattle.model.specs.WellFormed.{tableFormed, inScope, againstInScope, comparisonFormed, structured, inRange, againstLimited, conditionLimited, limited, wellFormed}
+use Rattle.model.specs.WellFormed.{tableFormed, inScope, againstInScope, comparisonFormed, inRange, againstLimited, wellFormed}
 use Rattle.model.specs.Verdict.{columns}
-use Rattle.model.proofs.Lists.{all-has, has-all}
-use Rattle.model.proofs.Scope.{Formed, job-formed}
 use Rattle.solver.specs.Solver.{fits, boundsFit, againstFits, comparisonFits}
 
 -- ---- a column
-
--- at most a million either way
-abbrev pub near : Bounds → Bool
-near b = inRange (b .lo) && inRange (b .hi)
-
 range-fits : (v : ℤ) → T (inRange v) → T (fits v)
 range-fits v h =
     let (low, high) = and-yes (leZ (negsuc 999999) v) (leZ v (pos 1000000)) h in
@@ -55,7 +50,7 @@ columns-fit ts formed range = has-all boundsFit (columnsOf ts) (λ b m.
 
 pub record Taken (ts : List Table) (e : Expression) : Type 0 where
   pub formed : Formed ts e
-  pub limits : T (conditionLimited (e .condition))
+  pub limits : Limited (e .condition)
   pub fit : T (allOf (allOf (comparisonFits (length (columnsOf ts)))) (e .condition))
 
 module _ (ts : List Table) (e : Expression) where
@@ -69,36 +64,25 @@ module _ (ts : List Table) (e : Expression) where
   against-fits (column c) h l = lt→ltb c n (scope-declared c h)
   against-fits (number v) h l = range-fits v l
 
-  expression-taken : Formed ts e → T (conditionLimited (e .condition)) → Taken ts e
-  unfolding conditionLimited
+  expression-taken : Formed ts e → Limited (e .condition) → Taken ts e
   expression-taken f l = record {
     formed = f;
     limits = l;
     fit = has-all (allOf (comparisonFits n)) (e .condition) (λ c m.
-        let small : Clause → Bool = λ c. allOf (λ k. againstLimited (k .right)) c in
-        let clauses = (and-yes (leb (length (e .condition)) 4) (allOf (λ c. leb (length c) 6 && small c) (e .condition)) l) .1 in
-        let numbers = (and-yes (leb (length c) 6) (small c) (all-has (λ c. leb (length c) 6 && small c) m clauses)) .1 in
+        let formed = all-has (allOf (comparisonFormed ts e)) m (f .condition) in
+        let numbers = all-has (allOf (λ k. againstLimited (k .right))) m (l .numbers) in
         has-all (comparisonFits n) c (λ k i.
-        let (h, a) = and-yes (inScope ts e (k .left)) (againstInScope ts e (k .right))
-        (all-has (comparisonFormed ts e) i (all-has (allOf (comparisonFormed ts e)) m (f .condition))) in
+        let (h, a) = and-yes (inScope ts e (k .left)) (againstInScope ts e (k .right)) (all-has (comparisonFormed ts e) i formed) in
         yes-and (ltb (k .left) n) (againstFits n (k .right)) (lt→ltb (k .left) n (scope-declared (k .left) h))
         (against-fits (k .right) a (all-has (λ k. againstLimited (k .right)) i numbers))));
   }
 
 module _ {ts : List Table} {e : Expression} (taken : Taken ts e) where
   pub few-clauses : length (e .condition) ≤ 4
-  unfolding conditionLimited
-  few-clauses =
-      let each : Clause → Bool = λ c. leb (length c) 6 && allOf (λ k. againstLimited (k .right)) c in
-      leb→le (length (e .condition)) 4 ((and-yes (leb (length (e .condition)) 4) (allOf each (e .condition)) (taken .limits)) .0)
+  few-clauses = taken .limits .few-clauses
 
   pub few-comparisons : (c : Clause) → c ∈ e .condition → length c ≤ 6
-  unfolding conditionLimited
-  few-comparisons c m =
-      let small : Clause → Bool = λ c. allOf (λ k. againstLimited (k .right)) c in
-      let each : Clause → Bool = λ c. leb (length c) 6 && small c in
-      let clauses = (and-yes (leb (length (e .condition)) 4) (allOf each (e .condition)) (taken .limits)) .1 in
-      leb→le (length c) 6 ((and-yes (leb (length c) 6) (small c) (all-has each m clauses)) .0)
+  few-comparisons = clause-short (taken .limits)
 
   pub outputs-declared : (c : ℕ) → c ∈ e .outputs → c < length (columnsOf ts)
   outputs-declared c m = scope-declared ts e c (all-has (inScope ts e) m (taken .formed .outputs))
@@ -115,24 +99,15 @@ pub record JobTaken (j : Job) : Type 0 where
   pub query : Taken (j .tables) (j .query)
 
 pub job-taken : (j : Job) → T (wellFormed j) → JobTaken j
-unfolding wellFormed limited
 job-taken j w =
-    let (s, l) = and-yes (structured j) (limited j) w in
-    let formed = job-formed j s in
-    let n = length (columns j) in
-    let counted = leb 1 (length (j .tables)) && leb (length (j .tables)) 4 in
-    let extract = conditionLimited (j .extract .condition) in
-    let (l₅, q) = and-yes (counted && leb 1 n && leb n 16 && allOf near (columns j) && extract) (conditionLimited (j .query .condition)) l in
-    let (l₄, e) = and-yes (counted && leb 1 n && leb n 16 && allOf near (columns j)) extract l₅ in
-    let (l₃, range) = and-yes (counted && leb 1 n && leb n 16) (allOf near (columns j)) l₄ in
-    let (l₂, most) = and-yes (counted && leb 1 n) (leb n 16) l₃ in
-    let (l₁, some) = and-yes counted (leb 1 n) l₂ in
+    let f = well-formed j w .formed in
+    let l = well-formed j w .limits in
     record {
-      tables = formed .tables;
-      some-column = leb→le 1 n some;
-      few-columns = leb→le n 16 most;
-      range = range;
-      bounds = columns-fit (j .tables) (formed .tables) range;
-      extract = expression-taken (j .tables) (j .extract) (formed .extract) e;
-      query = expression-taken (j .tables) (j .query) (formed .query) q;
+      tables = f .tables;
+      some-column = l .some-columns;
+      few-columns = l .few-columns;
+      range = l .ranges;
+      bounds = columns-fit (j .tables) (f .tables) (l .ranges);
+      extract = expression-taken (j .tables) (j .extract) (f .extract) (l .extract);
+      query = expression-taken (j .tables) (j .query) (f .query) (l .query);
     }

@@ -10,13 +10,13 @@ use lib.ListN.{length, getD, replicate}
 use lib.IntN.{ℤ, pos}
 use lib.Dec.{T}
 use mir.Facts.{yes-and}
+use Rattle.base.specs.Lists.{allOf, at}
+use Rattle.base.specs.Options.{andThen, isSome}
 use Rattle.words.specs.Bias.{bias}
 use Rattle.words.specs.Word.{signBit}
 use Rattle.words.proofs.Biases.{biased-low, biased-high}
-use Rattle.model.specs.Lists.{allOf}
 use Rattle.model.specs.Tables.{Bounds, Comparison}
 use Rattle.model.specs.Least.{leastRow}
-use Rattle.zone.specs.Matrix.{at}
 use Rattle.zone.specs.Zone.{Zone, Closed, leastOf}
 use Rattle.zone.specs.Array.{zoneIn, laid}
 use Rattle.zone.specs.Uses.{InArray}
@@ -24,8 +24,8 @@ use Rattle.zone.proofs.Closed.{least-length, least-meets}
 use Rattle.zone.proofs.Box.{Between, box-rows}
 use Rattle.zone.proofs.Answers.{Answers}
 use Rattle.zone.proofs.Laid.{laid-is, laid-in-array}
-use Rattle.solver.specs.Solver.{boundsFit, comparisonFits, solvable, nodes, rowOf, boxOf, andThen, imposed, imposedAll, zoneOf, solution}
-use Rattle.solver.specs.Lists.{boundsOf, comparisonsOf, isSome, onward, reached, rowOrZeros}
+use Rattle.solver.specs.Solver.{boundsFit, comparisonFits, solvable, nodes, rowOf, boxOf, imposed, imposedAll, zoneOf, solution}
+use Rattle.solver.specs.Lists.{boundsOf, comparisonsOf, onward, reached, rowOrZeros}
 use Rattle.solver.specs.Uses.{Words, WordNodes, BoundsRoom, ImposesAll, LeastRoom, Solves}
 use Rattle.solver.proofs.Nodes.{nodes-size, nodes-at, nodes-length, nodes-closed}
 use Rattle.solver.proofs.Bounds.{bounds-length, bounded, box-is}

@@ -7,6 +7,9 @@ use Prim.Native.Nat.{ℕ, _-_, _*_, _<_, _≤_}
 use native.Mathlib.Omega.{arith}
 use lib.ListN.{length}
 use lib.Dec.{T}
+use Rattle.base.proofs.Options.{then-itself}
+use Rattle.base.specs.Options.{andThen, isSome}
+use Rattle.base.proofs.Tests.{T-is}
 use Rattle.zone.specs.declared.Constraint.{Constraint}
 use Rattle.zone.specs.Zone.{Zone, level, Closed, allows, tightened, constrained, kept}
 use Rattle.zone.specs.Array.{zoneIn, laid}
@@ -17,12 +20,11 @@ use Rattle.zone.proofs.Ranges.{allows-is}
 use Rattle.zone.proofs.Closed.{tight-entry, tight-length, tight-closed}
 use Rattle.words.specs.Compare.{Op, less, atMost, equal, atLeast, more}
 use Rattle.model.specs.Tables.{Comparison}
-use Rattle.model.proofs.Lists.{T-is}
 use Rattle.solver.specs.declared.Constraints.{Constraints}
 use Rattle.solver.specs.Comparisons.{atMostBy, both, between}
 use Rattle.solver.specs.Uses.{Imposes}
-use Rattle.solver.specs.Solver.{andThen, constrainedBy, imposedBy, imposed, imposedAll}
-use Rattle.solver.specs.Lists.{isSome, onward, reached}
+use Rattle.solver.specs.Solver.{constrainedBy, imposedBy, imposed, imposedAll}
+use Rattle.solver.specs.Lists.{onward, reached}
 
 -- ---- two constraints at once
 module _ (z : Zone) (c e : Constraint) (cl : Closed z) (cl-in : c .left < length z) (cr-in : c .right < length z)
@@ -68,10 +70,6 @@ some-allows z c = go (allows z c)
     go true = refl
     go false = refl
 
-then-some : {A : Type 0} (o : Option A) → andThen o (λ y. some y) ≡ o
-then-some none = refl
-then-some (some a) = refl
-
 -- a constraint of a zone with n nodes
 abbrev Within : ℕ → Constraint → Type 0
 Within n c = (c .left < n) × (c .right < n) × (c .most ≤ 2 * level)
@@ -113,7 +111,7 @@ module _ (n : ℕ) (d : List ℕ) (o : Op) (a b w : ℕ) (u : Imposes n d a b w)
   pub one-outcome : p .two ≡ false → (r : Bool) (x : List ℕ) → r ≡ allows z (p .first) → x ≡ laid d (kept z (constrained z (p .first))) → Outcome r x
   unfolding imposedBy
   one-outcome t r x f g =
-      let by : imposedBy z p ≡ constrained z (p .first) = rw t (then-some (constrained z (p .first))) in
+      let by : imposedBy z p ≡ constrained z (p .first) = rw t (then-itself (constrained z (p .first))) in
       rw (← e, by) (f ∙ sym (some-allows z (p .first)), g)
 
   -- with two

@@ -1,4 +1,3 @@
-pub mod Lists
 pub mod Nodes
 pub mod Comparisons
 pub mod Solver

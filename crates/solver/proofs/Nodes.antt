@@ -10,13 +10,12 @@ use lib.IntN.{ℤ, pos, negsuc}
 use lib.Signed.{leZ}
 use lib.Dec.{T, leb→le, le→leb}
 use mir.Facts.{and-yes, yes-and}
+use Rattle.base.specs.Lists.{allOf, at}
+use Rattle.base.proofs.Lists.{pairwise-length}
 use Rattle.words.specs.Bias.{bias, biased, unbiased}
 use Rattle.words.proofs.Order.{leZ-trans}
 use Rattle.words.proofs.Biases.{FromBias, biased-le, biased-unbiased, unbiased-from}
-use Rattle.model.specs.Lists.{allOf}
 use Rattle.model.specs.Tables.{Bounds, Row, inside, within}
-use Rattle.model.proofs.Lists.{pairwise-length}
-use Rattle.zone.specs.Matrix.{at}
 use Rattle.zone.specs.Zone.{Meets, Closed}
 use Rattle.zone.specs.Uses.{NodeBounds}
 use Rattle.zone.proofs.Box.{box-length, box-closed, box-rows}

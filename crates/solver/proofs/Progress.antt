@@ -3,16 +3,18 @@ use mathlib.Core.Path.{_≡_, refl, sym, ap, _∙_}
 use mathlib.Core.Bool.{Bool, true, false, not, false≢true}
 use mathlib.Core.List.{List, [], _∷_}
 use mathlib.Core.Option.{Option, none, some}
-use Prim.Native.Nat.{ℕ, zero, suc, _+_, _<_, _≤_}
+use Prim.Native.Nat.{ℕ, _+_, _<_, _≤_}
 use native.Mathlib.Omega.{arith}
 use native.Mathlib.Numerals.{add-one}
 use lib.ListN.{length, getD, drop, drop-of-length-le}
 use lib.Seq.{drop-cons}
 use lib.IntN.{pos}
 use lib.Dec.{T}
-use mir.Facts.{and-yes}
 use borrow.Author.Tests.{not-true, not-false}
-use Rattle.model.specs.Lists.{allOf}
+use Rattle.solver.specs.Obeying.{ObeysAll}
+use Rattle.base.proofs.Places.{all-at}
+use Rattle.base.specs.Lists.{allOf}
+use Rattle.base.specs.Options.{isSome}
 use Rattle.model.specs.Tables.{Comparison}
 use Rattle.zone.specs.Zone.{Zone, kept}
 use Rattle.zone.specs.Array.{zoneIn, laid}
@@ -22,16 +24,9 @@ use Rattle.zone.proofs.Laid.{laid-is, laid-in-array}
 use Rattle.zone.proofs.Answers.{Answers}
 use Rattle.solver.specs.Comparisons.{listOf, constraintsOf}
 use Rattle.solver.specs.Solver.{comparisonFits, imposed, imposedAll}
-use Rattle.solver.specs.Lists.{coded, isSome, reached}
-use Rattle.solver.proofs.Comparisons.{ObeysAll}
+use Rattle.solver.specs.Lists.{coded, reached}
 use Rattle.solver.proofs.Solver.{imposed-answers}
 use Rattle.solver.proofs.Imposing.{all-onward, all-stop}
-
--- an element passes where all do
-pub all-at : {A : Type 0} (p : A → Bool) (xs : List A) (k : ℕ) (d : A) → T (allOf p xs) → k < length xs → T (p (getD xs k d))
-all-at p [] k d t h = absurd (omega arith)
-all-at p (x ∷ xs) zero d t h = and-yes (p x) (allOf p xs) t .0
-all-at p (x ∷ xs) (suc k) d t h = all-at p xs k d (and-yes (p x) (allOf p xs) t .1) (omega arith)
 
 -- the comparison at place k of a list
 abbrev pub Next : List Comparison → ℕ → Comparison → Type 0

@@ -9,22 +9,23 @@ use lib.ListN.{length}
 use lib.Signed.{leZ}
 use lib.Dec.{T, ltb, ltb→lt, le→leb}
 use mir.Facts.{and-yes, yes-and}
+use Rattle.solver.specs.Obeying.{ObeysAll}
+use Rattle.base.specs.Lists.{allOf, at}
+use Rattle.base.specs.Options.{andThen}
 use Rattle.words.specs.Bias.{bias, biased}
 use Rattle.words.specs.Compare.{Op, less, atMost, equal, atLeast, more}
 use Rattle.words.proofs.Biases.{biased-le}
-use Rattle.model.specs.Lists.{allOf}
 use Rattle.model.specs.Tables.{Bounds, Row, Against, column, number, Comparison, comparisonHolds, clauseHolds, within, inside}
 use Rattle.model.specs.Least.{atMostRow, leastRow}
 use Rattle.model.proofs.Theorems.{least-none, least-some}
 use Rattle.zone.specs.declared.Constraint.{Constraint}
-use Rattle.zone.specs.Matrix.{at}
 use Rattle.zone.specs.Zone.{Zone, Obeys, Closed, constrained, leastOf}
 use Rattle.zone.proofs.Closed.{least-length, least-meets, least-below}
 use Rattle.zone.proofs.Answers.{Answers, constrained-answers}
 use Rattle.solver.specs.Comparisons.{nodeOf, addedTo, listOf, between, constraintsOf}
-use Rattle.solver.specs.Solver.{boundsFit, againstFits, comparisonFits, solvable, nodes, rowOf, boxOf, andThen, constrainedBy, imposedBy, imposed, imposedAll, zoneOf, solution}
+use Rattle.solver.specs.Solver.{boundsFit, againstFits, comparisonFits, solvable, nodes, rowOf, boxOf, constrainedBy, imposedBy, imposed, imposedAll, zoneOf, solution}
 use Rattle.solver.proofs.Nodes.{inside-from, nodes-length, nodes-closed, row-meets, meets-row}
-use Rattle.solver.proofs.Comparisons.{ObeysAll, comparison-says}
+use Rattle.solver.proofs.Comparisons.{comparison-says}
 
 -- ---- one condition after the other
 module _ (z : Zone) (P Q : List ℕ → Type 0) where

@@ -7,7 +7,8 @@ use mathlib.Core.Option.{Option, none, some}
 use Prim.Native.Nat.{ℕ, suc}
 use lib.ListN.{length}
 use lib.Dec.{T}
-use Rattle.model.specs.Lists.{allOf}
+use Rattle.solver.specs.Obeying.{ObeysAll, ObeysSome}
+use Rattle.base.specs.Lists.{allOf}
 use Rattle.model.specs.Tables.{Bounds, Row, Comparison, within, comparisonHolds, clauseHolds}
 use Rattle.model.specs.Least.{leastRow}
 use Rattle.zone.specs.Zone.{Zone, Meets, Closed, leastOf}
@@ -15,7 +16,6 @@ use Rattle.zone.proofs.Closed.{least-meets}
 use Rattle.solver.specs.Comparisons.{listOf, constraintsOf, negationsOf}
 use Rattle.solver.specs.Solver.{boundsFit, comparisonFits, solvable, nodes, rowOf, zoneOf, solution}
 use Rattle.solver.proofs.Comparisons as comparisons
-use Rattle.solver.proofs.Comparisons.{ObeysAll, ObeysSome}
 use Rattle.solver.proofs.Nodes.{row-meets, meets-row, nodes-length}
 use Rattle.solver.proofs.Solver.{parts, zone-answers, list-says, solution-least}
 

@@ -1,13 +1,12 @@
 -- Bounds, rows and comparisons as the code is given them: a list for each part.
-use mathlib.Core.Bool.{Bool, true, false}
 use mathlib.Core.List.{List, [], _∷_}
 use mathlib.Core.Option.{Option, none, some}
 use Prim.Native.Nat.{ℕ}
 use lib.ListN.{length, getD, replicate}
 use lib.IntN.{ℤ, pos}
+use Rattle.base.specs.Lists.{tabulate, at}
 use Rattle.model.specs.Tables.{Bounds, Row, Comparison}
 use Rattle.model.specs.Coded.{opAt, sideOf}
-use Rattle.zone.specs.Matrix.{tabulate, at}
 use Rattle.zone.specs.Zone.{Zone}
 use Rattle.solver.specs.Solver.{imposed}
 
@@ -27,11 +26,6 @@ comparisonsOf ops lefts rights numbers = tabulate (length ops) (λ i. coded (at 
 abbrev pub rowOrZeros : ℕ → Option Row → Row
 rowOrZeros n none = replicate n (pos 0)
 rowOrZeros n (some r) = r
-
--- an answer without what stands beside it
-abbrev pub isSome : {A : Type 0} → Option A → Bool
-isSome none = false
-isSome (some a) = true
 
 abbrev pub onward : Option Zone → Zone → (Zone → Zone) → Zone
 onward none old next = old

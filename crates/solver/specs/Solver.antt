@@ -1,14 +1,15 @@
 -- The solver: a list of comparisons as one closed zone, and its least row.
 use mathlib.Core.Bool.{Bool, _&&_}
 use mathlib.Core.List.{List, [], _∷_, map}
-use mathlib.Core.Option.{Option, none, some}
+use mathlib.Core.Option.{Option, some}
 use Prim.Native.Nat.{ℕ}
 use lib.ListN.{length, drop}
 use lib.IntN.{ℤ, pos, negsuc}
 use lib.Signed.{leZ}
 use lib.Dec.{ltb}
+use Rattle.base.specs.Options.{andThen}
+use Rattle.base.specs.Lists.{allOf}
 use Rattle.words.specs.Bias.{bias, biased, unbiased}
-use Rattle.model.specs.Lists.{allOf}
 use Rattle.model.specs.Tables.{Bounds, Row, Against, column, number, Comparison}
 use Rattle.zone.specs.declared.Constraint.{Constraint}
 use Rattle.zone.specs.Zone.{Zone, boxed, constrained, leastOf}
@@ -47,10 +48,6 @@ rowOf x = map (unbiased bias) (drop 1 x)
 
 unfoldable pub boxOf : List Bounds → Zone
 boxOf bs = boxed (nodes (map (λ b. b .lo) bs)) (nodes (map (λ b. b .hi) bs))
-
-abbrev pub andThen : {A B : Type 0} → Option A → (A → Option B) → Option B
-andThen none f = none
-andThen (some a) f = f a
 
 -- with some constraints more, one after the other
 abbrev pub constrainedBy : Zone → List Constraint → Option Zone

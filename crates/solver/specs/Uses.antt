@@ -6,10 +6,9 @@ use lib.ListN.{length, getD}
 use lib.IntN.{ℤ, pos}
 use lib.Signed.{mag}
 use lib.Dec.{T}
+use Rattle.base.specs.Lists.{allOf, at}
 use Rattle.words.specs.Bias.{bias}
 use Rattle.words.specs.Word.{signBit}
-use Rattle.model.specs.Lists.{allOf}
-use Rattle.zone.specs.Matrix.{at}
 use Rattle.zone.specs.Zone.{level, leastOf}
 use Rattle.zone.specs.Array.{zoneIn}
 use Rattle.zone.specs.Uses.{InArray}

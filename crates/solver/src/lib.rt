@@ -3,6 +3,7 @@ ghost use mathlib.Core.Path.{_≡_};
 ghost use Prim.Native.Nat.{_+_, _*_, _<_};
 ghost use lib.ListN.{length, replicate};
 ghost use lib.IntN.{pos};
+ghost use Rattle.base.specs.Options.{isSome};
 ghost use Rattle.model.specs.Least.{leastRow};
 ghost use Rattle.zone.specs.Zone.{level, kept, leastOf};
 ghost use Rattle.zone.specs.Array.{zoneIn, laid};
@@ -10,23 +11,17 @@ ghost use Rattle.solver.specs.Solver.{nodes, rowOf, boxOf, imposedBy, im
 ghost use Rattle.solver.specs.Uses.{Words, WordNodes, BoundsRoom, Imposes, ImposesOne, ImposesAll, LeastRoom, Solves};
 ghost use Rattle.solver.specs.Comparisons.{addedTo, atMostBy, one, between, against, negationsOf};
 ghost use Rattle.model.specs.Coded.{opAt, sideOf};
-ghost use Rattle.solver.specs.Lists.{boundsOf, coded, comparisonsOf, isSome, reached, rowOrZeros};
+ghost use Rattle.solver.specs.Lists.{boundsOf, coded, comparisonsOf, reached, rowOrZeros};
 use zone::Constraint;
 
-// The ops that stand for a failed one.
-const LESS: u8 = 0;
+// Ops by their numbers: those by which two values differ, and the others that stand for a failed one.
+pub const LESS: u8 = 0;
+
+pub const MORE: u8 = 4;
 
 const AT_MOST: u8 = 1;
 
 const AT_LEAST: u8 = 3;
-
-const MORE: u8 = 4;
-
-// The value of node 0.
-const BIAS: u64 = 1_000_000_000_000_000;
-
-// Twice the level of an entry: a constraint the other way round is that much less what this one allows.
-const TWICE: u64 = 8_000_000_000_000_000;
 
 // What a comparison comes to: one constraint, which then stands in both places, or two.
 pub struct Constraints {
@@ -65,11 +60,11 @@ pub fn between(op: u8, a: usize, b: usize, added: u64) -> Constraints
             second: Constraint {
                 left: b,
                 right: a,
-                most: TWICE - added,
+                most: zone::TWICE - added,
             },
         },
-        3 => one(b, a, TWICE - added),
-        _ => one(b, a, TWICE - added - 1),
+        3 => one(b, a, zone::TWICE - added),
+        _ => one(b, a, zone::TWICE - added - 1),
     }
 }
 
@@ -103,7 +98,7 @@ fn to_nodes(v: &[i32], x: &mut [u64])
     ensures nodes { λ _. ⌜ now (x .exit) ≡ nodes (now (v .entry)) ⌝ }
     ensures words { λ _. ⌜ Words (now (v .entry)) ⌝ }
 {
-    x[0] = BIAS;
+    x[0] = zone::BIAS;
     let mut i = 0;
     while i < v.len() {
         x[i + 1] = words::to_biased(v[i]);
@@ -175,23 +170,22 @@ fn added_to(right: u8, number: i32) -> u64
     ensures { λ r. ⌜ r ≡ addedTo (sideOf right number) ⌝ }
 {
     if right == 0 {
-        words::to_biased(number) + (zone::LEVEL - BIAS)
+        words::to_biased(number) + (zone::LEVEL - zone::BIAS)
     } else {
         zone::LEVEL
     }
-}
-
-fn wide(b: u8) -> usize
-    ensures { λ r. ⌜ r ≡ b ⌝ }
-{
-    b as usize
 }
 
 // The ways in which a comparison fails; one of them holds where it doesn't.
 pub fn negations(op: u8, left: u8, right: u8, number: i32) -> Constraints
     ensures { λ r. ⌜ r ≡ negationsOf (coded op left right number) ⌝ }
 {
-    against(op, wide(left) + 1, wide(right), added_to(right, number))
+    against(
+        op,
+        base::wide(left) + 1,
+        base::wide(right),
+        added_to(right, number),
+    )
 }
 
 // Keeps the rows that meet a comparison; where there are none it says so, and leaves the zone as it is.
@@ -211,8 +205,8 @@ pub fn impose_one(
         &mut *d,
         columns + 1,
         op,
-        wide(left) + 1,
-        wide(right),
+        base::wide(left) + 1,
+        base::wide(right),
         added_to(right, number),
     )
 }

@@ -6,8 +6,8 @@ use native.Mathlib.Omega.{arith}
 use native.Mathlib.Numerals.{add-one}
 use lib.ListN.{length, getD, take, set, length-map}
 use lib.Seq.{take-suc, length-take-le}
-use Rattle.job.specs.Record.{padded}
-use Rattle.job.proofs.Padded.{getD-padded, padded-more, padded-past, padded-length, mapped-more}
+use Rattle.base.specs.Arrays.{padded}
+use Rattle.base.proofs.Arrays.{getD-padded, padded-more, padded-past, padded-length, mapped-more}
 use Rattle.twins.specs.Twins.{below}
 use Rattle.twins.proofs.Lists.{map-at}
 use Rattle.twins.proofs.Twins.{below-length, below-at}

@@ -8,8 +8,8 @@ use lib.ListN.{length, getD}
 use lib.Seq.{getD-append-add}
 use lib.Dec.{T}
 use mir.Facts.{and-yes, yes-and}
-use Rattle.words.proofs.Tests.{same-test}
-use Rattle.model.specs.Lists.{_∈_, anyOf, filter, pairwise}
+use Rattle.base.specs.Lists.{_∈_, anyOf, filter, pairwise}
+use Rattle.base.proofs.Tests.{same-test}
 use Rattle.model.specs.Tables.{Bounds, Row, within}
 use Rattle.model.specs.Rows.{someRow, twoRows}
 use Rattle.model.proofs.Rows.{some-has, has-some, two-has, has-two}

@@ -10,15 +10,16 @@ use lib.ListN.{length, getD, set, drop, length-set}
 use lib.Seq.{getD-set-same, getD-set-other}
 use lib.Dec.{ltb}
 use borrow.Author.Tests.{lt-ltb, le-ltb}
+use Rattle.base.specs.Options.{isSome}
+use Rattle.base.proofs.Tests.{by-less}
+use Rattle.base.proofs.Places.{tabulate-length, tabulate-at, tabulate-cong, tabulated}
 use Rattle.model.specs.Tables.{Condition}
 use Rattle.job.specs.declared.Expression.{Expression}
 use Rattle.job.specs.Meaning.{clauseOf}
 use Rattle.zone.specs.Zone.{Zone, canDiffer}
 use Rattle.zone.specs.Array.{zoneIn, laid}
-use Rattle.zone.proofs.Cases.{by-less}
-use Rattle.zone.proofs.Matrix.{tabulate-length, tabulate-at, tabulate-cong, tabulated}
 use Rattle.solver.specs.Solver.{imposedAll}
-use Rattle.solver.specs.Lists.{isSome, reached}
+use Rattle.solver.specs.Lists.{reached}
 use Rattle.search.specs.Search.{byClause}
 use Rattle.search.specs.Pairs.{ifDiffer, pairsOf}
 use Rattle.search.specs.Records.{conditionOf}

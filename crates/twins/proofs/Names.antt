@@ -8,19 +8,18 @@ use lib.IntN.{ℤ}
 use lib.Dec.{T, ltb, ltb→lt}
 use mir.Facts.{and-yes}
 use borrow.Author.Tests.{ne-eqb}
-use Rattle.model.specs.Lists.{allOf}
+use Rattle.base.specs.Lists.{allOf, at}
+use Rattle.base.proofs.Lists.{all-has}
+use Rattle.base.proofs.Arrays.{padded-each}
 use Rattle.model.specs.Tables as model
 use Rattle.model.specs.Tables.{Bounds, Against, column, number, Condition}
 use Rattle.model.specs.Coded.{sideOf, sideNumber}
-use Rattle.model.proofs.Lists.{all-has}
-use Rattle.zone.specs.Matrix.{at}
 use Rattle.solver.specs.Solver.{againstFits, comparisonFits}
 use Rattle.job.specs.declared.Comparison.{Comparison}
 use Rattle.job.specs.declared.Clause.{Clause}
 use Rattle.job.specs.declared.Expression.{Expression}
 use Rattle.job.specs.Record.{noComparison, noClause}
 use Rattle.job.specs.Meaning.{comparisonOf, clauseOf, expressionOf, comparisonRecord, clauseRecord, expressionRecord}
-use Rattle.job.proofs.Padded.{padded-each}
 use Rattle.twins.specs.Twins.{twinOf, renamedSide, renamedComparison, renamed}
 use Rattle.twins.specs.Records.{renamedRight, renamedOne, renamedClause, renamedExpression, twinsRecord}
 use Rattle.twins.specs.Uses.{Compares, ComparesAll}

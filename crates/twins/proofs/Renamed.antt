@@ -5,7 +5,7 @@ use Prim.Native.Nat.{ℕ}
 use lib.ListN.{length}
 use lib.Dec.{T}
 use mir.Facts.{and-yes}
-use Rattle.model.specs.Lists.{allOf}
+use Rattle.base.specs.Lists.{allOf}
 use Rattle.model.specs.Tables.{Table, Row, Against, column, number, Clause, Condition, Expression, columnsOf, value, operand, clauseHolds, conditionHolds}
 use Rattle.model.specs.WellFormed.{inScope, againstInScope, comparisonFormed}
 use Rattle.solver.proofs.Formed.{scope-declared}

@@ -11,20 +11,21 @@ use lib.IntN.{ℤ}
 use lib.Dec.{T, ltb, lt→ltb}
 use mir.Facts.{yes-and}
 use borrow.Author.Tests.{ne-eqb}
+use Rattle.solver.specs.Obeying.{ObeysAll}
+use Rattle.base.specs.Lists.{at}
+use Rattle.base.specs.Options.{isSome}
 use Rattle.words.specs.Compare.{less, more}
 use Rattle.model.specs.Tables.{Comparison}
 use Rattle.model.specs.Coded.{opAt}
-use Rattle.zone.specs.Matrix.{at}
 use Rattle.zone.specs.Zone.{Zone, Closed, kept}
 use Rattle.zone.specs.Array.{zoneIn, laid}
 use Rattle.zone.specs.Uses.{InArray}
 use Rattle.zone.proofs.Array.{zone-length, laid-zone}
 use Rattle.zone.proofs.Answers.{Answers}
 use Rattle.solver.specs.Comparisons.{listOf, constraintsOf}
-use Rattle.solver.proofs.Comparisons.{ObeysAll}
 use Rattle.solver.proofs.Solver.{imposed-answers}
 use Rattle.solver.specs.Solver.{comparisonFits, imposed}
-use Rattle.solver.specs.Lists.{coded, isSome}
+use Rattle.solver.specs.Lists.{coded}
 use Rattle.solver.specs.Uses.{ImposesOne}
 use Rattle.search.specs.Search.{orElse, firstOf}
 use Rattle.search.specs.Records.{laidIf}

@@ -9,15 +9,14 @@ use lib.ListN.{length, getD, take, length-append, length-map, length-take}
 use lib.Seq.{take-suc, length-take-le, getD-take}
 use lib.IntN.{pos}
 use lib.Dec.{eqb}
-use Rattle.model.specs.Lists.{anyOf, filter}
+use Rattle.base.specs.Lists.{anyOf, filter, at}
+use Rattle.base.proofs.Lists.{map-snoc}
+use Rattle.base.proofs.Arrays.{take-padded, mapped-more}
+use Rattle.base.proofs.Tests.{by-less}
 use Rattle.model.specs.Tables.{Bounds, Row, value}
-use Rattle.zone.specs.Matrix.{at}
-use Rattle.zone.proofs.Cases.{by-less}
 use Rattle.job.specs.declared.Column.{Column}
 use Rattle.solver.specs.Lists.{boundsOf as listed}
 use Rattle.job.specs.Meaning.{boundsOf}
-use Rattle.job.proofs.Meaning.{take-padded}
-use Rattle.job.proofs.Padded.{mapped-more, map-more}
 use Rattle.twins.specs.declared.TwinRows.{TwinRows}
 use Rattle.twins.specs.Twins.{below, isStored, hidden, rank, twinOf, twinBounds}
 use Rattle.twins.proofs.Rows.{firstRow, secondRow}
@@ -54,7 +53,7 @@ module _ (xs : List Column) (c : ℕ) (few : length xs ≤ 16) {t : TwinRows} (i
   pub first-more : (d : Column) → c < length xs → columnMore t (getD xs c d) ≡ twinsOf (map boundsOf (take (c + 1) xs)) []
   first-more d h =
       let more : map boundsOf (take c xs) ++ boundsOf (getD xs c d) ∷ [] ≡ map boundsOf (take (c + 1) xs) =
-      rw (add-one c, take-suc xs c d h, map-more boundsOf (take c xs) (getD xs c d)) in
+      rw (add-one c, take-suc xs c d h, map-snoc boundsOf (take c xs) (getD xs c d)) in
       ap (λ (t : TwinRows). columnMore t (getD xs c d)) is ∙ column-more (map boundsOf (take c xs)) [] (getD xs c d) (omega (arith, first-length))
       ∙ ap (λ (bs : List Bounds). twinsOf bs []) more
 
@@ -119,7 +118,7 @@ module _ (bs : List Bounds) (stored : List ℕ) where
     unfolding till
     hidden-more i =
         let more : own (c + 1) ≡ own c ++ boundsOf k ∷ [] =
-        rw (add-one c, filter-append isHidden (below c) (c ∷ []), i, map-more bound (filter isHidden (below c)) c, here) in
+        rw (add-one c, filter-append isHidden (below c) (c ∷ []), i, map-snoc bound (filter isHidden (below c)) c, here) in
         let names = map (twinOf n stored) (below (c + 1)) in
         ap (λ (v : ℕ). columnMore (twinMore (till c) c v) k) (till-columns c ∙ sym (twin-hidden n stored c (rw i tt)))
         ∙ ap (λ (t : TwinRows). columnMore t k) place

@@ -11,13 +11,13 @@ use lib.Seq.{getD-append-seam, getD-take, take-at, ext-getD}
 use lib.IntN.{pos}
 use lib.Dec.{T, ltb, eqb, eqb→eq, eqb-refl}
 use mir.Facts.{and-yes, yes-and}
+use Rattle.base.specs.Lists.{_∈_, allOf, filter}
+use Rattle.base.proofs.Lists.{any-has, has-any, all-has, has-all, filter-has, pairwise-length, pairwise-append, pairwise-split}
+use Rattle.base.proofs.Tests.{same-test, T-is, not-is}
 use Rattle.words.specs.Compare.{eqZ}
 use Rattle.words.proofs.Order.{eqZ-is}
-use Rattle.words.proofs.Tests.{same-test}
-use Rattle.model.specs.Lists.{_∈_, allOf, filter}
 use Rattle.model.specs.Tables.{Bounds, Row, value, inside, within}
 use Rattle.model.specs.Rows.{someRow, twoRows, sameRow}
-use Rattle.model.proofs.Lists.{T-is, not-is, any-has, has-any, all-has, has-all, filter-has, pairwise-length, pairwise-append, pairwise-split}
 use Rattle.model.proofs.Rows.{some-has, has-some, two-has, has-two, is-same-row}
 use Rattle.twins.specs.Twins.{below, isStored, hidden, rank, twinOf, twinBounds}
 use Rattle.twins.proofs.Rows.{firstRow, secondRow}

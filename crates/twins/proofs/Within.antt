@@ -4,8 +4,8 @@ use mathlib.Core.Bool.{Bool, true, false, false≢true}
 use mathlib.Core.List.{List}
 use mathlib.Core.Option.{Option, none, some}
 use Prim.Native.Nat.{ℕ}
+use Rattle.base.specs.Options.{isSome}
 use Rattle.zone.specs.Zone.{Zone}
-use Rattle.solver.specs.Lists.{isSome}
 use Rattle.search.specs.Records.{laidIf}
 use Rattle.search.proofs.Found.{none-of, Ends, ends-some}
 

@@ -4,7 +4,7 @@ use mathlib.Core.List.{List}
 use Prim.Native.Nat.{ℕ}
 use lib.ListN.{getD}
 use lib.Dec.{ltb}
-use Rattle.zone.specs.Matrix.{tabulate}
+use Rattle.base.specs.Lists.{tabulate}
 
 -- the marks that there are, and those of the first w columns for which f says so
 unfoldable pub marked : ℕ → (ℕ → Bool) → List Bool → List Bool

@@ -5,13 +5,13 @@ use Prim.Native.Nat.{ℕ, _+_, _-_}
 use lib.ListN.{length, set}
 use lib.IntN.{pos}
 use lib.Dec.{eqb}
+use Rattle.base.specs.Lists.{at}
+use Rattle.base.specs.Arrays.{padded}
 use Rattle.model.specs.Tables.{Bounds}
-use Rattle.zone.specs.Matrix.{at}
 use Rattle.job.specs.declared.Column.{Column}
 use Rattle.job.specs.declared.Comparison.{Comparison}
 use Rattle.job.specs.declared.Clause.{Clause}
 use Rattle.job.specs.declared.Expression.{Expression}
-use Rattle.job.specs.Record.{padded}
 use Rattle.twins.specs.declared.TwinRows.{TwinRows}
 use Rattle.twins.specs.Twins.{below, twinOf, twinBounds}
 

@@ -5,8 +5,8 @@ use Prim.Native.Nat.{ℕ, zero, suc, _+_}
 use lib.ListN.{length, getD}
 use lib.IntN.{pos}
 use lib.Dec.{eqb}
-use Rattle.model.specs.Lists.{anyOf, filter}
-use Rattle.model.specs.Tables.{Bounds, Against, column, number, Comparison, Condition, value}
+use Rattle.base.specs.Lists.{anyOf, filter}
+use Rattle.model.specs.Tables.{Bounds, Against, column, number, Comparison, Condition}
 
 -- the numbers below n, in order
 abbrev pub below : ℕ → List ℕ

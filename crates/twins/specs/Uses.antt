@@ -6,11 +6,11 @@ use Prim.Native.Nat.{ℕ, _+_, _<_, _≤_}
 use lib.ListN.{length, getD}
 use lib.IntN.{pos}
 use lib.Dec.{T}
+use Rattle.base.specs.Lists.{at}
 use Rattle.job.specs.declared.Comparison.{Comparison}
 use Rattle.job.specs.declared.Clause.{Clause}
 use Rattle.job.specs.declared.Expression.{Expression}
 use Rattle.job.specs.declared.Job.{Job}
-use Rattle.zone.specs.Matrix.{at}
 use Rattle.zone.specs.Uses.{InArray}
 use Rattle.search.specs.declared.Choices.{Choices}
 use Rattle.search.specs.Records.{conditionOf}

@@ -4,13 +4,13 @@ ghost use mathlib.Core.List.{[], map};
 ghost use Prim.Native.Nat.{suc, _+_, _≤_, _<_};
 ghost use lib.ListN.{take};
 ghost use lib.IntN.{pos};
+ghost use Rattle.base.specs.Lists.{at};
+ghost use Rattle.base.specs.Options.{isSome};
+ghost use Rattle.base.specs.Arrays.{padded};
 ghost use Rattle.model.specs.Tables.{value};
-ghost use Rattle.job.specs.Record.{padded};
 ghost use Rattle.job.specs.Meaning.{boundsOf};
-ghost use Rattle.zone.specs.Matrix.{at};
 ghost use Rattle.zone.specs.Zone.{canDiffer};
 ghost use Rattle.zone.specs.Array.{zoneIn};
-ghost use Rattle.solver.specs.Lists.{isSome};
 ghost use Rattle.search.specs.Search.{outside, byClause};
 ghost use Rattle.search.specs.Pairs.{someApart, ifDiffer, pairsOf};
 ghost use Rattle.search.specs.Records.{choicesIn, conditionOf, laidIf};
@@ -118,7 +118,7 @@ pub fn twins_of(job: Job) -> TwinRows
     let mut t = first_columns(job);
     let mut c = 0;
     while c < n {
-        let stored = job::is_among(&outputs, m, c as u8);
+        let stored = base::is_among(&outputs, m, c as u8);
         t = take_column(t, c, given[c], stored);
         c += 1;
     }

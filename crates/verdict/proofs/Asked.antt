@@ -5,7 +5,7 @@ use Prim.Native.Nat.{ℕ, _≤_}
 use native.Mathlib.Omega.{arith}
 use lib.ListN.{length}
 use lib.Dec.{T}
-use Rattle.model.specs.Lists.{allOf}
+use Rattle.base.specs.Lists.{allOf}
 use Rattle.model.specs.Tables.{Bounds}
 use Rattle.model.specs.Verdict.{columns}
 use Rattle.solver.specs.Solver.{comparisonFits}

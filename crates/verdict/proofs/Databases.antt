@@ -8,16 +8,17 @@ use lib.ListN.{length, getD, take, drop, length-append, length-take, length-drop
 use lib.Seq.{getD-take, getD-drop, ext-getD}
 use lib.IntN.{ℤ, pos}
 use borrow.Author.Tests.{lt-ltb, le-ltb}
+use Rattle.model.proofs.Formed.{Formed}
+use Rattle.base.proofs.Arrays.{padded-past}
+use Rattle.base.proofs.Tests.{by-less}
 use Rattle.model.specs.Tables as model
 use Rattle.model.specs.Tables.{Table, Row, TableRow, columnsOf, tableOf, uses, value, partOf}
 use Rattle.model.specs.Verdict.{columns, usesOther}
 use Rattle.model.specs.Pair.{rowDatabase, reducedDatabase}
-use Rattle.model.proofs.Scope.{Formed, used-declared}
-use Rattle.zone.proofs.Cases.{by-less}
+use Rattle.model.proofs.Scope.{used-declared}
 use Rattle.job.specs.declared.Job.{Job}
 use Rattle.job.specs.Meaning.{tableNumbers, meaningOf, recordOf}
 use Rattle.job.proofs.Columns.{tables-are, width-is, table-is}
-use Rattle.job.proofs.Padded.{padded-past}
 use Rattle.job.proofs.Counts.{tables-fit}
 use Rattle.verdict.specs.declared.Database.{Database}
 use Rattle.verdict.specs.Databases.{noDatabase, databaseOf, tableAt, TidyDatabase, valueIn, databaseRecord, presentIn, rowRecord, reducedRecord}

@@ -4,11 +4,11 @@ use mathlib.Core.Bool.{Bool, true, false, not, and-assoc, and-comm, _&&_}
 use Prim.Native.Nat.{ℕ, _<_}
 use lib.ListN.{length}
 use lib.Dec.{T}
-use Rattle.model.specs.Lists.{anyOf}
+use Rattle.base.specs.Lists.{anyOf}
+use Rattle.base.specs.Options.{isSome}
 use Rattle.model.specs.Tables.{Row, Job, conditionHolds}
 use Rattle.model.specs.WellFormed.{wellFormed}
 use Rattle.model.specs.Verdict.{columns, tablesDiffer, firstKind, kind1, kind2, kind3, kind4, kindOf, fixed}
-use Rattle.solver.specs.Lists.{isSome}
 use Rattle.search.specs.Search.{choicesOf, outside}
 use Rattle.search.specs.Pairs.{someApart}
 use Rattle.search.proofs.Stands.{Stands, box-stands}

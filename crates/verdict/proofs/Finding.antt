@@ -5,10 +5,10 @@ use mathlib.Core.List.{List}
 use mathlib.Core.Option.{Option, none, some}
 use Prim.Native.Nat.{ℕ}
 use native.Mathlib.Omega.{arith}
+use Rattle.base.specs.Options.{isSome}
 use Rattle.model.specs.Tables.{Job}
 use Rattle.model.specs.Verdict.{tablesDiffer, firstKind}
 use Rattle.zone.specs.Zone.{Zone}
-use Rattle.solver.specs.Lists.{isSome}
 use Rattle.search.specs.Search.{orElse}
 use Rattle.search.specs.Records.{laidIf}
 use Rattle.search.proofs.Found.{Ends}

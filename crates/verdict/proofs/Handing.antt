@@ -8,19 +8,19 @@ use native.Mathlib.Omega.{arith}
 use lib.ListN.{length, getD, replicate}
 use lib.Dec.{T}
 use borrow.Author.Tests.{lt-ltb, le-leb, lt-leb}
+use Rattle.base.specs.Options.{isSome}
+use Rattle.base.proofs.Tests.{by-less}
+use Rattle.base.proofs.Places.{replicate-at}
 use Rattle.model.specs.Tables as model
 use Rattle.model.specs.Tables.{Row}
 use Rattle.model.specs.WellFormed.{wellFormed}
 use Rattle.model.specs.Verdict.{columns, tablesDiffer, firstKind}
 use Rattle.zone.specs.Zone.{Zone, leastOf}
 use Rattle.zone.specs.Array.{zoneIn, laid}
-use Rattle.zone.proofs.Cases.{by-less}
 use Rattle.solver.specs.Solver.{rowOf}
-use Rattle.solver.specs.Lists.{isSome}
 use Rattle.job.specs.declared.Job.{Job}
 use Rattle.job.specs.Meaning.{meaningOf}
 use Rattle.job.proofs.Records.{Sized}
-use Rattle.job.proofs.Padded.{replicate-at}
 use Rattle.job.proofs.Columns.{width-is}
 use Rattle.search.specs.Search.{orElse}
 use Rattle.search.specs.Records.{laidIf}

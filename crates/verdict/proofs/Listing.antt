@@ -7,12 +7,13 @@ use native.Mathlib.Omega.{arith}
 use lib.ListN.{getD, take}
 use lib.Dec.{T, eqb}
 use borrow.Author.Tests.{not-true, not-false}
-use Rattle.model.specs.Lists.{anyOf}
+use Rattle.base.specs.Lists.{anyOf}
+use Rattle.base.specs.Arrays.{padded}
 use Rattle.model.specs.Tables.{uses, tableOf}
 use Rattle.model.specs.WellFormed.{wellFormed}
 use Rattle.model.specs.Verdict.{fixed, listingOf}
 use Rattle.job.specs.declared.Job.{Job}
-use Rattle.job.specs.Record.{padded, noColumn}
+use Rattle.job.specs.Record.{noColumn}
 use Rattle.job.specs.Meaning.{expressionOf, meaningOf, recordOf}
 use Rattle.job.proofs.Columns.{width-is, table-is}
 use Rattle.twins.specs.Twins.{below}

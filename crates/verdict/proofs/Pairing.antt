@@ -7,16 +7,16 @@ use lib.ListN.{length, take, drop, replicate, length-map, length-drop, length-re
 use lib.Seq.{take-append-le}
 use lib.IntN.{ℤ, pos}
 use borrow.Author.Tests.{le-leb, lt-leb, ne-eqb}
+use Rattle.base.specs.Lists.{at}
+use Rattle.base.specs.Arrays.{padded}
+use Rattle.base.proofs.Arrays.{getD-padded, padded-past}
+use Rattle.base.proofs.Tests.{by-less}
 use Rattle.words.specs.Bias.{bias, unbiased}
 use Rattle.model.specs.Tables.{Row, value}
-use Rattle.zone.specs.Matrix.{at}
 use Rattle.zone.specs.Zone.{leastOf}
 use Rattle.zone.specs.Array.{zoneIn}
-use Rattle.zone.proofs.Cases.{by-less}
 use Rattle.solver.specs.Uses.{LeastRoom}
 use Rattle.job.specs.declared.Job.{Job}
-use Rattle.job.specs.Record.{padded}
-use Rattle.job.proofs.Padded.{getD-padded, padded-past}
 use Rattle.twins.specs.declared.TwinRows.{TwinRows}
 use Rattle.twins.specs.Twins.{below}
 use Rattle.twins.proofs.Lists.{map-cong}

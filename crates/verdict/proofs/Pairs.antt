@@ -9,18 +9,17 @@ use lib.IntN.{ℤ, pos}
 use lib.Dec.{T}
 use mir.Facts.{and-yes}
 use borrow.Author.Tests.{ne-eqb, lt-leb}
+use Rattle.model.proofs.Formed.{Formed, job-formed}
+use Rattle.base.specs.Lists.{at}
+use Rattle.base.proofs.Arrays.{take-padded, padded-length}
+use Rattle.base.proofs.Tests.{by-less}
 use Rattle.model.specs.Tables as model
 use Rattle.model.specs.Tables.{Row, value}
 use Rattle.model.specs.WellFormed.{structured, limited, wellFormed}
 use Rattle.model.specs.Verdict.{columns, HandedOut}
 use Rattle.model.specs.Pair.{rowDatabase, reducedDatabase}
-use Rattle.model.proofs.Scope.{Formed, job-formed}
-use Rattle.zone.specs.Matrix.{at}
-use Rattle.zone.proofs.Cases.{by-less}
 use Rattle.job.specs.declared.Job.{Job}
 use Rattle.job.specs.Meaning.{meaningOf, recordOf}
-use Rattle.job.proofs.Meaning.{take-padded}
-use Rattle.job.proofs.Padded.{padded-length}
 use Rattle.job.proofs.Columns.{width-is}
 use Rattle.twins.specs.declared.TwinRows.{TwinRows}
 use Rattle.twins.specs.Twins.{below}

@@ -9,23 +9,23 @@ use lib.ListN.{length, getD, take, replicate, length-map, List·getD-map}
 use lib.Seq.{length-take-le}
 use lib.IntN.{ℤ, pos}
 use lib.Dec.{T}
-use Rattle.model.specs.Lists.{_∈_, allOf}
+use Rattle.base.specs.Lists.{_∈_, allOf, at}
+use Rattle.base.specs.Options.{andThen, isSome}
+use Rattle.base.specs.Arrays.{padded}
+use Rattle.base.proofs.Arrays.{padded-length}
 use Rattle.model.specs.Tables as model
 use Rattle.model.specs.Tables.{Bounds, Condition}
 use Rattle.model.specs.Verdict.{columns, usesOther, tablesDiffer}
-use Rattle.zone.specs.Matrix.{at}
 use Rattle.zone.specs.Zone.{Zone}
 use Rattle.zone.specs.Array.{zoneIn, laid}
 use Rattle.zone.specs.Uses.{InArray}
-use Rattle.solver.specs.Solver.{boundsFit, boxOf, andThen, imposedAll}
-use Rattle.solver.specs.Lists.{isSome, boundsOf}
+use Rattle.solver.specs.Solver.{boundsFit, boxOf, imposedAll}
+use Rattle.solver.specs.Lists.{boundsOf}
 use Rattle.solver.specs.Uses.{BoundsRoom}
 use Rattle.job.specs.declared.Expression.{Expression}
 use Rattle.job.specs.declared.Job.{Job}
-use Rattle.job.specs.Record.{padded}
 use Rattle.job.specs.Meaning.{meaningOf, expressionOf}
 use Rattle.job.proofs.Records.{Sized}
-use Rattle.job.proofs.Padded.{padded-length}
 use Rattle.job.proofs.Columns.{width-is, bounds-are, extract-is, query-is}
 use Rattle.job.proofs.Counts.{outputs-fit, clauses-fit, comparisons-fit}
 use Rattle.search.specs.declared.Choices.{Choices}

@@ -6,15 +6,16 @@ use Prim.Native.Nat.{ℕ, _<_}
 use lib.ListN.{length}
 use lib.Dec.{T}
 use mir.Facts.{and-yes, yes-and}
+use Rattle.model.proofs.Formed.{JobFormed, job-formed}
+use Rattle.base.specs.Lists.{anyOf}
+use Rattle.base.proofs.Lists.{all-has}
+use Rattle.base.proofs.Tests.{T-is, stable}
 use Rattle.words.specs.Compare.{eqZ}
-use Rattle.model.specs.Lists.{anyOf}
 use Rattle.model.specs.Tables.{Row, Job, value, within, conditionHolds, outputsOf, meets}
 use Rattle.model.specs.WellFormed.{inScope, structured, limited, wellFormed}
 use Rattle.model.specs.Rows.{someRow, twoRows, sameRow}
 use Rattle.model.specs.Verdict.{columns, meetsExtract, meetsQuery, stored, answer, alikeInExtract, tablesDiffer, kind1, witness2, kind2, witness3, kind3, witness4, kind4, unfixing, fixed}
-use Rattle.model.proofs.Lists.{T-is, stable, all-has}
 use Rattle.model.proofs.Rows.{has-some}
-use Rattle.model.proofs.Scope.{JobFormed, job-formed}
 use Rattle.solver.proofs.Formed.{scope-declared}
 use Rattle.verdict.specs.Found.{twin, bothBounds, keepsOne, keepsOther, wantsOne, wantsOther}
 use Rattle.verdict.proofs.Rows.{oneRow, otherRow}

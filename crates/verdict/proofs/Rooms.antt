@@ -10,15 +10,15 @@ use lib.IntN.{ℤ, pos, negsuc}
 use lib.Signed.{leZ, mag}
 use lib.Dec.{T, leb→le}
 use mir.Facts.{and-yes, yes-and}
+use Rattle.model.proofs.Formed.{near}
+use Rattle.base.specs.Lists.{allOf, at}
+use Rattle.base.proofs.Lists.{pairwise-length, all-has}
 use Rattle.words.specs.Bias.{bias, biased}
 use Rattle.words.specs.Word.{signBit}
 use Rattle.words.proofs.Order.{leZ-trans}
 use Rattle.words.proofs.Biases.{biased-low, biased-high}
-use Rattle.model.specs.Lists.{allOf}
 use Rattle.model.specs.Tables.{Bounds, Row, value, inside, within}
 use Rattle.model.specs.WellFormed.{inRange}
-use Rattle.model.proofs.Lists.{pairwise-length, all-has}
-use Rattle.zone.specs.Matrix.{at}
 use Rattle.zone.specs.Zone.{Zone, leastOf}
 use Rattle.zone.specs.Array.{zoneIn, laid}
 use Rattle.zone.specs.Uses.{InArray}
@@ -27,7 +27,6 @@ use Rattle.zone.proofs.Laid.{laid-is, laid-in-array}
 use Rattle.solver.specs.Solver.{rowOf}
 use Rattle.solver.specs.Uses.{WordNodes, LeastRoom}
 use Rattle.solver.proofs.Nodes.{map-at}
-use Rattle.solver.proofs.Formed.{near}
 use Rattle.search.proofs.Stands.{Stands}
 use Rattle.search.proofs.Held.{element}
 use Rattle.twins.proofs.Lists.{pairwise-at}

@@ -6,16 +6,17 @@ use Prim.Native.Nat.{ℕ, _+_, _<_, _≤_}
 use lib.ListN.{length, getD, take, replicate}
 use lib.IntN.{ℤ, pos}
 use lib.Dec.{eqb, leb}
+use Rattle.base.specs.Lists.{at}
+use Rattle.base.specs.Arrays.{padded}
 use Rattle.model.specs.Tables as model
 use Rattle.model.specs.Tables.{Row, uses, partOf, value}
 use Rattle.model.specs.Verdict.{columns, usesOther}
-use Rattle.zone.specs.Matrix.{at}
 use Rattle.zone.specs.Zone.{leastOf}
 use Rattle.zone.specs.Array.{zoneIn}
 use Rattle.solver.specs.Solver.{rowOf}
 use Rattle.job.specs.declared.Column.{Column}
 use Rattle.job.specs.declared.Job.{Job}
-use Rattle.job.specs.Record.{padded, noColumn}
+use Rattle.job.specs.Record.{noColumn}
 use Rattle.job.specs.Meaning.{expressionOf, tableNumbers}
 use Rattle.twins.specs.declared.TwinRows.{TwinRows}
 use Rattle.twins.specs.Twins.{below}

@@ -4,10 +4,10 @@ use mathlib.Core.List.{List, map}
 use Prim.Native.Nat.{ℕ}
 use lib.ListN.{getD, take}
 use lib.Dec.{eqb}
-use Rattle.model.specs.Lists.{anyOf}
+use Rattle.base.specs.Lists.{anyOf}
+use Rattle.base.specs.Arrays.{padded}
 use Rattle.model.specs.Tables.{uses}
 use Rattle.job.specs.declared.Job.{Job}
-use Rattle.job.specs.Record.{padded}
 use Rattle.job.specs.Meaning.{expressionOf}
 use Rattle.twins.specs.Twins.{below}
 use Rattle.verdict.specs.Databases.{tableAt}

@@ -1,9 +1,9 @@
 -- What deciding gives for a record that reading gives (document 01, "The verdict").
 use mathlib.Core.List.{List, map}
 use Prim.Native.Nat.{ℕ}
+use Rattle.base.specs.Arrays.{padded}
 use Rattle.model.specs.Verdict.{listingOf, HandedOut}
 use Rattle.job.specs.declared.Job.{Job}
-use Rattle.job.specs.Record.{padded}
 use Rattle.job.specs.Meaning.{meaningOf}
 use Rattle.twins.specs.Twins.{below}
 use Rattle.verdict.specs.declared.Database.{Database}

@@ -4,9 +4,9 @@ ghost use mathlib.Core.Bool.{false, cond, _&&_, _||_};
 ghost use Prim.Native.Nat.{_≤_};
 ghost use lib.ListN.{replicate};
 ghost use lib.IntN.{pos};
+ghost use Rattle.base.specs.Arrays.{padded};
 ghost use Rattle.model.specs.Tables.{uses};
 ghost use Rattle.model.specs.Verdict.{usesOther, kindOf};
-ghost use Rattle.job.specs.Record.{padded};
 ghost use Rattle.job.specs.Meaning.{expressionOf, meaningOf};
 ghost use Rattle.search.specs.Records.{laidIf};
 ghost use Rattle.verdict.specs.Found.{oneKind, oneFound, twoKind, twoFound, foundKind, finding, unfixedIn};
@@ -38,7 +38,7 @@ fn uses(e: Expression, t: u8) -> bool
     ensures { λ r. ⌜ r ≡ uses (expressionOf e) t ⌝ }
 {
     let used = e.used;
-    job::is_among(&used, e.tables, t)
+    base::is_among(&used, e.tables, t)
 }
 
 // Whether an expression uses a table that another doesn't.
@@ -227,7 +227,7 @@ fn listed(job: Job, marks: [bool; Job::COLUMNS], c: usize) -> u8
     if !uses(extract, column.table) {
         return 0;
     }
-    if job::is_among(&outputs, m, c as u8) {
+    if base::is_among(&outputs, m, c as u8) {
         return 1;
     }
     if marks[c] { 3 } else { 2 }

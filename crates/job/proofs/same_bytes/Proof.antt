@@ -5,8 +5,8 @@ use lib.ListN.{length, drop}
 use lib.Dec.{eqb}
 use borrow.Author.Needs.{needs}
 use borrow.Author.Tests.{eq-eqb, ne-eqb}
-use Rattle.model.specs.Lists.{pairwise}
-use Rattle.model.proofs.Turns.{pairs-fail, pairs-more, pairs-done}
+use Rattle.base.specs.Lists.{pairwise}
+use Rattle.base.proofs.Turns.{pairs-fail, pairs-more, pairs-done}
 use Rattle.job.proofs.same_bytes.Statement.{statement}
 use Rattle.job.proofs.same_bytes.Tie as tie
 

@@ -4,7 +4,7 @@ use native.Mathlib.Omega.{arith}
 use lib.ListN.{length, drop, length-map}
 use borrow.Author.Needs.{needs}
 use borrow.Author.Tests.{eq-eqb, ne-eqb}
-use Rattle.model.specs.Lists.{pairwise}
+use Rattle.base.specs.Lists.{pairwise}
 use Rattle.job.specs.Record.{noComparison}
 use Rattle.job.specs.Same.{sameComparison, sameClause}
 use Rattle.job.proofs.Alike.{entry-fails, entry-passes, entries-end}

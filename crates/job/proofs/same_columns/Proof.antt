@@ -3,7 +3,7 @@ use Prim.Native.Nat.{_-_, _≤_}
 use native.Mathlib.Omega.{arith}
 use lib.ListN.{length, drop, length-map}
 use borrow.Author.Needs.{needs}
-use Rattle.model.specs.Lists.{pairwise}
+use Rattle.base.specs.Lists.{pairwise}
 use Rattle.job.specs.Record.{noColumn}
 use Rattle.job.specs.Same.{sameColumn}
 use Rattle.job.proofs.Alike.{entry-fails, entry-passes, entries-end}

@@ -1,7 +1,7 @@
 use borrow.Author.Needs.{needs}
 use borrow.Author.Tests.{eq-eqb, ne-eqb}
+use Rattle.base.proofs.Tests.{and-fails, and-passes}
 use Rattle.job.specs.Same.{sameExpression}
-use Rattle.job.proofs.Alike.{fails, passes}
 use Rattle.job.proofs.same_expression.Statement.{statement}
 use Rattle.job.proofs.same_expression.Tie as tie
 
@@ -14,11 +14,11 @@ same-bytes-requires c κs = search needs
 
 returns-2 : tie.Need-returns-2
 unfolding sameExpression
-returns-2 c = rw (eq-eqb _ _ (c .before .before .before .before .before .before .before .before .if1 .left)) (fails _ (c .before .same-bytes .ensures) (c .if2 .taken))
+returns-2 c = rw (eq-eqb _ _ (c .before .before .before .before .before .before .before .before .if1 .left)) (and-fails _ (c .before .same-bytes .ensures) (c .if2 .taken))
 
 returns-3 : tie.Need-returns-3
 unfolding sameExpression
-returns-3 c = rw (eq-eqb _ _ (c .before .before .before .before .before .before .before .before .before .if1 .left)) (passes (c .before .before .same-bytes .ensures) (c .before .if2 .left) (rw (ne-eqb _ _ (c .if3 .taken))))
+returns-3 c = rw (eq-eqb _ _ (c .before .before .before .before .before .before .before .before .before .if1 .left)) (and-passes (c .before .before .same-bytes .ensures) (c .before .if2 .left) (rw (ne-eqb _ _ (c .if3 .taken))))
 
 same-bytes-requires-2 : tie.Need-same-bytes-requires-2
 same-bytes-requires-2 c κs = search needs
@@ -27,16 +27,16 @@ returns-4 : tie.Need-returns-4
 unfolding sameExpression
 returns-4 c =
     rw (eq-eqb _ _ (c .before .before .before .before .before .before .before .before .before .before .before .before .before .before .before .before .before .if1 .left))
-    (passes (c .before .before .before .before .before .before .before .before .before .before .same-bytes .ensures) (c .before .before .before .before .before .before .before .before .before .if2 .left)
-    (rw (eq-eqb _ _ (c .before .before .before .before .before .before .before .before .if3 .left)) (fails _ (c .before .same-bytes2 .ensures) (c .if4 .taken))))
+    (and-passes (c .before .before .before .before .before .before .before .before .before .before .same-bytes .ensures) (c .before .before .before .before .before .before .before .before .before .if2 .left)
+    (rw (eq-eqb _ _ (c .before .before .before .before .before .before .before .before .if3 .left)) (and-fails _ (c .before .same-bytes2 .ensures) (c .if4 .taken))))
 
 returns-5 : tie.Need-returns-5
 unfolding sameExpression
 returns-5 c =
     rw (eq-eqb _ _ (c .before .before .before .before .before .before .before .before .before .before .before .before .before .before .before .before .before .before .if1 .left))
-    (passes (c .before .before .before .before .before .before .before .before .before .before .before .same-bytes .ensures) (c .before .before .before .before .before .before .before .before .before .before .if2 .left)
+    (and-passes (c .before .before .before .before .before .before .before .before .before .before .before .same-bytes .ensures) (c .before .before .before .before .before .before .before .before .before .before .if2 .left)
     (rw (eq-eqb _ _ (c .before .before .before .before .before .before .before .before .before .if3 .left))
-    (passes (c .before .before .same-bytes2 .ensures) (c .before .if4 .left)
+    (and-passes (c .before .before .same-bytes2 .ensures) (c .before .if4 .left)
     (rw (ne-eqb _ _ (c .if5 .taken))))))
 
 same-clauses-requires : tie.Need-same-clauses-requires
@@ -46,9 +46,9 @@ returns-6 : tie.Need-returns-6
 unfolding sameExpression
 returns-6 c =
     rw (eq-eqb _ _ (c .before .before .before .before .before .before .before .before .before .before .before .before .before .before .before .before .before .before .before .if1 .left))
-    (passes (c .before .before .before .before .before .before .before .before .before .before .before .before .same-bytes .ensures) (c .before .before .before .before .before .before .before .before .before .before .before .if2 .left)
+    (and-passes (c .before .before .before .before .before .before .before .before .before .before .before .before .same-bytes .ensures) (c .before .before .before .before .before .before .before .before .before .before .before .if2 .left)
     (rw (eq-eqb _ _ (c .before .before .before .before .before .before .before .before .before .before .if3 .left))
-    (passes (c .before .before .before .same-bytes2 .ensures) (c .before .before .if4 .left)
+    (and-passes (c .before .before .before .same-bytes2 .ensures) (c .before .before .if4 .left)
     (rw (eq-eqb _ _ (c .before .if5 .left)) (c .same-clauses .ensures)))))
 
 pub same-expression-spec : {M : Type 1} → statement M

@@ -12,7 +12,7 @@ room : (c : tie.After-wide2) →
     c .before .wide .result + c .wide2 .result * 256 ≤ length (c .before .before .before .before .before .before .before .args .s .now)
 room c =
     let most = c .before .before .before .before .before .before .before .pre in
-    omega (arith, most, c .before .wide .ensures, c .wide2 .ensures)
+    omega (arith, most, c .before .wide .ensures .1, c .wide2 .ensures .1)
 
 pub next-job-spec : {M : Type 1} → statement M
 next-job-spec =

@@ -7,8 +7,8 @@ use lib.ListN.{length, take, drop, replicate, length-append}
 use lib.Seq.{length-take-le, take-at}
 use lib.IntN.{ℤ, pos}
 use borrow.Author.Needs.{needs}
+use Rattle.base.specs.Lists.{flatMap}
 use Rattle.words.specs.Word.{encoded}
-use Rattle.model.specs.Lists.{flatMap}
 use Rattle.listform.specs.Form.{written, Solved}
 use Rattle.listform.proofs.Answering.{rooms, resized, zeros, written-is, count-none, count-row}
 use Rattle.listform.proofs.answer.Statement.{statement}

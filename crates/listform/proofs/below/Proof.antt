@@ -6,8 +6,8 @@ use lib.ListN.{length, getD, drop}
 use lib.Dec.{ltb}
 use borrow.Author.Needs.{needs}
 use borrow.Author.Tests.{le-ltb, lt-ltb}
+use Rattle.base.proofs.Turns.{all-fails, all-more, all-done}
 use Rattle.listform.specs.Form.{allBelow}
-use Rattle.model.proofs.Turns.{all-fails, all-more, all-done}
 use Rattle.listform.proofs.below.Statement.{statement}
 use Rattle.listform.proofs.below.Tie as tie
 

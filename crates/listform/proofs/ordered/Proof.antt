@@ -6,9 +6,9 @@ use lib.ListN.{length, getD, drop}
 use lib.IntN.{pos}
 use lib.Signed.{leZ}
 use borrow.Author.Needs.{needs}
+use Rattle.base.specs.Lists.{pairwise}
+use Rattle.base.proofs.Turns.{pairs-fail, pairs-more, pairs-done}
 use Rattle.words.proofs.Stored.{stored}
-use Rattle.model.specs.Lists.{pairwise}
-use Rattle.model.proofs.Turns.{pairs-fail, pairs-more, pairs-done}
 use Rattle.listform.proofs.Tests.{more-not, not-more}
 use Rattle.listform.proofs.ordered.Statement.{statement}
 use Rattle.listform.proofs.ordered.Tie as tie

@@ -6,9 +6,9 @@ use native.Mathlib.Omega.{arith}
 use lib.ListN.{length, getD, take}
 use lib.IntN.{pos}
 use borrow.Author.Needs.{needs}
+use Rattle.base.specs.Lists.{flatMap}
 use Rattle.words.specs.Word.{encoded}
 use Rattle.words.proofs.Stored.{stored}
-use Rattle.model.specs.Lists.{flatMap}
 use Rattle.listform.proofs.Writing.{put-none, put-more, put-all}
 use Rattle.listform.proofs.put.Statement.{statement}
 use Rattle.listform.proofs.put.Tie as tie

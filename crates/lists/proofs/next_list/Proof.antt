@@ -29,13 +29,13 @@ next-list-spec =
     (λ c. search needs)
     (λ c. search needs)
     (λ c. search needs)
-    (λ c. sym (length-take-le _ _ (omega (arith, c .before .if4 .left, c .before .before .before .wide2 .ensures))))
+    (λ c. sym (length-take-le _ _ (omega (arith, c .before .if4 .left, c .before .before .before .wide2 .ensures .1))))
     (λ c. search needs)
-    (λ c. sym (length-take-le _ _ (omega (arith, c .before .before .if4 .left, c .before .before .before .before .wide2 .ensures))))
+    (λ c. sym (length-take-le _ _ (omega (arith, c .before .before .if4 .left, c .before .before .before .before .wide2 .ensures .1))))
     (λ c κs. record {
       columns = c .before .before .if4 .left;
-      comparisons = omega (arith, c .before .before .before .before .wide2 .ensures);
-      size = length-take-le _ _ (omega (arith, c .before .before .if4 .left, c .before .before .before .before .wide2 .ensures));
-      room = length-take-le _ _ (omega (arith, c .before .before .if4 .left, c .before .before .before .before .wide2 .ensures));
+      comparisons = omega (arith, c .before .before .before .before .wide2 .ensures .1);
+      size = length-take-le _ _ (omega (arith, c .before .before .if4 .left, c .before .before .before .before .wide2 .ensures .1));
+      room = length-take-le _ _ (omega (arith, c .before .before .if4 .left, c .before .before .before .before .wide2 .ensures .1));
     })
     (λ c. search needs))

@@ -3,7 +3,7 @@ use mathlib.Core.Path.{_≡_, refl}
 use Prim.Native.Nat.{_-_}
 use native.Mathlib.Omega.{arith}
 use lib.ListN.{length, take, drop}
-use Rattle.model.specs.Lists.{anyOf}
+use Rattle.base.specs.Lists.{anyOf}
 use Rattle.zone.specs.Zone.{allows, tightened}
 use Rattle.zone.specs.Array.{zoneIn}
 use Rattle.search.specs.Search.{breakable}

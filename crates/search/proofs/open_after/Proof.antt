@@ -4,7 +4,7 @@ use Prim.Native.Nat.{_-_}
 use native.Mathlib.Omega.{arith}
 use lib.ListN.{length, drop}
 use mathlib.Core.List.{map}
-use Rattle.model.specs.Lists.{allOf}
+use Rattle.base.specs.Lists.{allOf}
 use Rattle.zone.specs.Zone.{tightened}
 use Rattle.zone.specs.Array.{zoneIn}
 use Rattle.search.specs.Search.{breakable}

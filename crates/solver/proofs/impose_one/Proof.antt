@@ -23,7 +23,7 @@ impose-one-spec =
     (λ c. search needs)
     (λ c κs. search needs)
     (λ c κs. search needs)
-    (λ c κs. one-imposes (c .before .before .before .before .args .op) (c .before .before .before .before .args .left) (c .before .before .before .before .args .right) (c .before .before .before .before .args .number) (c .before .before .wide .ensures) (c .before .wide2 .ensures) (added-is c) (c .before .before .before .before .pre))
+    (λ c κs. one-imposes (c .before .before .before .before .args .op) (c .before .before .before .before .args .left) (c .before .before .before .before .args .right) (c .before .before .before .before .args .number) (c .before .before .wide .ensures .0) (c .before .wide2 .ensures .0) (added-is c) (c .before .before .before .before .pre))
     (λ c.
-    let is = imposed-is (c .before .before .before .before .before .args .op) (c .before .before .before .before .before .args .left) (c .before .before .before .before .before .args .right) (c .before .before .before .before .before .args .number) (c .before .before .before .wide .ensures) (c .before .before .wide2 .ensures) (added-is (c .before)) (zoneIn (c .before .before .before .before .before .args .columns + 1) (c .before .before .before .before .before .args .d .now)) in
+    let is = imposed-is (c .before .before .before .before .before .args .op) (c .before .before .before .before .before .args .left) (c .before .before .before .before .before .args .right) (c .before .before .before .before .before .args .number) (c .before .before .before .wide .ensures .0) (c .before .before .wide2 .ensures .0) (added-is (c .before)) (zoneIn (c .before .before .before .before .before .args .columns + 1) (c .before .before .before .before .before .args .d .now)) in
     rw (← is) (c .impose .ensures)))

@@ -21,4 +21,4 @@ negations-spec =
     (λ c κs. search needs)
     (λ c κs. search needs)
     (λ c κs. rw (added-is c) (word-added (c .before .before .before .args .right) (c .before .before .before .args .number) (c .before .before .before .fits .number .sfits)))
-    (λ c. c .against .ensures ∙ negations-are (c .before .before .before .before .args .op) (c .before .before .before .before .args .left) (c .before .before .before .before .args .right) (c .before .before .before .before .args .number) (c .before .before .before .wide .ensures) (c .before .before .wide2 .ensures) (added-is (c .before))))
+    (λ c. c .against .ensures ∙ negations-are (c .before .before .before .before .args .op) (c .before .before .before .before .args .left) (c .before .before .before .before .args .right) (c .before .before .before .before .args .number) (c .before .before .before .wide .ensures .0) (c .before .before .wide2 .ensures .0) (added-is (c .before))))

@@ -4,9 +4,9 @@ use mathlib.Core.Path.{_≡_, refl, ap, _∙_}
 use mathlib.Core.List.{map}
 use mathlib.Core.Logic.{⊎-elim}
 use lib.ListN.{length, take, drop}
+use Rattle.base.specs.Lists.{at}
 use Rattle.job.specs.Meaning.{clauseOf}
 use Rattle.job.proofs.Records.{sized-expression}
-use Rattle.zone.specs.Matrix.{at}
 use Rattle.zone.specs.Array.{zoneIn}
 use Rattle.search.specs.Search.{byClause}
 use Rattle.search.specs.Pairs.{someApart}

@@ -5,9 +5,9 @@ use native.Mathlib.Omega.{arith}
 use lib.ListN.{length-set, length, take}
 use lib.IntN.{pos}
 use borrow.Author.Needs.{needs}
+use Rattle.base.specs.Arrays.{padded}
 use Rattle.words.proofs.Stored.{stored}
 use Rattle.model.specs.Tables.{value}
-use Rattle.job.specs.Record.{padded}
 use Rattle.twins.proofs.Filled.{taken-more}
 use Rattle.twins.proofs.first_row.Statement.{statement}
 use Rattle.twins.proofs.first_row.Tie as tie

@@ -2,7 +2,7 @@ use borrow.Author.Needs.{needs}
 use native.Mathlib.Omega.{arith}
 use Prim.Native.Nat.{suc, _+_, _-_, _≤_}
 use mathlib.Core.Path.{_≡_, sym, _∙_}
-use Rattle.zone.specs.Matrix.{at}
+use Rattle.base.specs.Lists.{at}
 use Rattle.zone.specs.Zone.{canDiffer}
 use Rattle.zone.specs.Array.{zoneIn}
 use Rattle.twins.specs.Marks.{marked}

@@ -6,9 +6,9 @@ use mathlib.Core.List.{List, map}
 use mathlib.Core.Option.{Option}
 use mathlib.Core.Logic.{⊎-elim}
 use lib.ListN.{length, take}
+use Rattle.base.specs.Lists.{at}
 use Rattle.job.specs.Meaning.{clauseOf}
 use Rattle.job.proofs.Records.{sized-expression}
-use Rattle.zone.specs.Matrix.{at}
 use Rattle.zone.specs.Zone.{Zone}
 use Rattle.zone.specs.Array.{zoneIn}
 use Rattle.search.specs.Pairs.{ifDiffer}

@@ -6,10 +6,10 @@ use native.Mathlib.Omega.{arith}
 use lib.ListN.{length-set, length}
 use lib.IntN.{ℤ, pos}
 use borrow.Author.Needs.{needs}
+use Rattle.base.specs.Lists.{at}
+use Rattle.base.specs.Arrays.{padded}
 use Rattle.words.proofs.Stored.{stored}
 use Rattle.model.specs.Tables.{value}
-use Rattle.zone.specs.Matrix.{at}
-use Rattle.job.specs.Record.{padded}
 use Rattle.twins.specs.Twins.{below}
 use Rattle.twins.proofs.Filled.{filled-more}
 use Rattle.twins.proofs.second_row.Statement.{statement}

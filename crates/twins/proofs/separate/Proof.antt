@@ -3,7 +3,7 @@ use native.Mathlib.Omega.{arith}
 use Prim.Native.Nat.{_+_, _-_}
 use mathlib.Core.Path.{_≡_}
 use lib.ListN.{length, drop}
-use Rattle.zone.specs.Matrix.{at}
+use Rattle.base.specs.Lists.{at}
 use Rattle.zone.specs.Array.{zoneIn}
 use Rattle.search.specs.Search.{firstOf}
 use Rattle.search.specs.Pairs.{apart, someApart}

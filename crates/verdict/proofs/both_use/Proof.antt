@@ -1,5 +1,5 @@
 -- `verdict::both_use` meets its contract. Assumes nothing.
-use Rattle.job.proofs.Alike.{fails, passes}
+use Rattle.base.proofs.Tests.{and-fails, and-passes}
 use Rattle.verdict.proofs.both_use.Statement.{statement}
 use Rattle.verdict.proofs.both_use.Tie as tie
 
@@ -8,6 +8,6 @@ both-use-spec =
     tie.close
     (tie.spec
     (λ c κs. c .pre .first)
-    (λ c. fails _ (c .before .uses .ensures) (c .if1 .taken))
+    (λ c. and-fails _ (c .before .uses .ensures) (c .if1 .taken))
     (λ c κs. c .before .before .pre .second)
-    (λ c. passes (c .before .before .uses .ensures) (c .before .if1 .left) (c .uses2 .ensures)))
+    (λ c. and-passes (c .before .before .uses .ensures) (c .before .if1 .left) (c .uses2 .ensures)))

@@ -7,9 +7,9 @@ use native.Mathlib.Omega.{arith}
 use lib.ListN.{length-set, length, getD}
 use lib.IntN.{ℤ, pos}
 use borrow.Author.Needs.{needs}
+use Rattle.base.specs.Arrays.{padded}
 use Rattle.words.proofs.Stored.{stored}
 use Rattle.model.specs.Tables.{value}
-use Rattle.job.specs.Record.{padded}
 use Rattle.job.proofs.Records.{sized}
 use Rattle.verdict.specs.declared.Database.{Database}
 use Rattle.twins.specs.Twins.{below}

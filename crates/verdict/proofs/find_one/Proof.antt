@@ -4,8 +4,8 @@ use mathlib.Core.Bool.{false, _&&_}
 use mathlib.Core.List.{List}
 use Prim.Native.Nat.{ℕ}
 use lib.ListN.{length}
+use Rattle.base.specs.Options.{isSome}
 use Rattle.model.specs.Verdict.{tablesDiffer}
-use Rattle.solver.specs.Lists.{isSome}
 use Rattle.search.specs.Records.{laidIf}
 use Rattle.verdict.specs.Found.{found1, oneFound}
 use mathlib.Core.Logic.{⊎-elim}

@@ -4,7 +4,7 @@ use mathlib.Core.List.{map}
 use Prim.Native.Nat.{ℕ, _-_, _≤_}
 use native.Mathlib.Omega.{arith}
 use lib.ListN.{length-set, length}
-use Rattle.job.specs.Record.{padded}
+use Rattle.base.specs.Arrays.{padded}
 use Rattle.twins.specs.Twins.{below}
 use Rattle.twins.proofs.Filled.{filled-more}
 use Rattle.verdict.specs.Listing.{listedAt, listedBy}

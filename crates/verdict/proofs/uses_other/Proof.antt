@@ -5,12 +5,12 @@ use Prim.Native.Nat.{ℕ, _-_, _≤_}
 use native.Mathlib.Omega.{arith}
 use lib.ListN.{length, take, drop}
 use lib.Seq.{length-take-le, getD-take}
-use Rattle.model.specs.Lists.{anyOf}
+use Rattle.base.specs.Lists.{anyOf}
+use Rattle.base.proofs.Turns.{any-here, any-more, any-done}
 use Rattle.model.specs.Tables.{uses}
 use Rattle.model.specs.Verdict.{usesOther}
 use Rattle.job.specs.Meaning.{expressionOf}
 use Rattle.job.proofs.Records.{sized-expression}
-use Rattle.model.proofs.Turns.{any-here, any-more, any-done}
 use Rattle.verdict.proofs.uses_other.Statement.{statement}
 use Rattle.verdict.proofs.uses_other.Tie as tie
 

@@ -1,13 +1,15 @@
--- Tests of each element in turn: `left` says that what is left of a list decides. Assumes nothing.
-use mathlib.Core.Path.{_≡_}
+-- Loops that go through lists: `left` says that what is left of a list decides. Assumes nothing.
+use mathlib.Core.Path.{_≡_, sym}
 use mathlib.Core.Bool.{Bool, true, false}
 use mathlib.Core.List.{List}
+use mathlib.Core.Option.{Option, none, some}
 use Prim.Native.Nat.{ℕ, _+_, _<_, _≤_}
 use native.Mathlib.Numerals.{add-one}
 use native.Mathlib.Omega.{arith}
 use lib.ListN.{length, getD, drop, drop-of-length-le}
 use lib.Seq.{drop-cons}
-use Rattle.model.specs.Lists.{anyOf, allOf, pairwise}
+use Rattle.base.specs.Lists.{anyOf, allOf, pairwise}
+use Rattle.base.specs.Options.{firstOf}
 
 -- ---- of one list: whether each passes
 module _ {A : Type 0} (p : A → Bool) (d : A) (xs : List A) (i : ℕ) {o : Bool} (left : allOf p (drop i xs) ≡ o) where
@@ -48,3 +50,14 @@ module _ {A B : Type 0} (p : A → B → Bool) (d : A) (e : B) (xs : List A) (ys
     pairs-done h =
         let k : length ys ≤ i = omega arith in
         rw (drop-of-length-le xs h, drop-of-length-le ys k) at left
+
+-- ---- for which element something is given first
+module _ {A B : Type 0} (f : A → Option B) (d : A) (xs : List A) (i : ℕ) {o : Option B} (left : firstOf (drop i xs) f ≡ o) where
+  pub first-none : length xs ≤ i → o ≡ none
+  first-none h = sym (rw (drop-of-length-le xs {i = i} h) at left)
+
+  pub first-more : i < length xs → f (getD xs i d) ≡ none → firstOf (drop (i + 1) xs) f ≡ o
+  first-more h e = rw (add-one i) (rw (drop-cons xs i d h, e) at left)
+
+  pub first-found : i < length xs → {y : B} → f (getD xs i d) ≡ some y → o ≡ some y
+  first-found h e = sym (rw (drop-cons xs i d h, e) at left)

@@ -1,4 +1,4 @@
--- `job::is_among` meets its contract. The loop's invariant: among the first n is as much as among those from i on. Assumes nothing.
+-- `base::is_among` meets its contract. The loop's invariant: among the first n is as much as among those from i on. Assumes nothing.
 use mathlib.Core.Path.{_≡_, refl, sym}
 use Prim.Native.Nat.{_-_}
 use native.Mathlib.Omega.{arith}
@@ -6,10 +6,10 @@ use lib.ListN.{getD, take, drop}
 use lib.Seq.{length-take-le, getD-take}
 use lib.Dec.{eqb}
 use borrow.Author.Tests.{eq-eqb, ne-eqb}
-use Rattle.model.specs.Lists.{anyOf}
-use Rattle.model.proofs.Turns.{any-here, any-more, any-done}
-use Rattle.job.proofs.is_among.Statement.{statement}
-use Rattle.job.proofs.is_among.Tie as tie
+use Rattle.base.specs.Lists.{anyOf}
+use Rattle.base.proofs.Turns.{any-here, any-more, any-done}
+use Rattle.base.proofs.is_among.Statement.{statement}
+use Rattle.base.proofs.is_among.Tie as tie
 
 abbrev Inv-loop : tie.InvT-loop
 Inv-loop a n x i₀ i = anyOf (eqb x) (drop i (take n a)) ≡ anyOf (eqb x) (take n a)

@@ -1,4 +1,4 @@
--- What holds of every state that reading comes to: each part is well formed as far as it has been read. Assumes nothing.
+-- What holds of every state that reading comes to: each part is well formed as far as it has been read.
 use mathlib.Core.Path.{_≡_}
 use mathlib.Core.Bool.{true, false, not, _&&_}
 use mathlib.Core.List.{List, [], _∷_, _++_}
@@ -6,7 +6,7 @@ use Prim.Native.Nat.{ℕ, _<_, _≤_}
 use lib.ListN.{length}
 use lib.Signed.{leZ}
 use lib.Dec.{T, ltb, leb}
-use Rattle.model.specs.Lists.{allOf, isEmpty}
+use Rattle.base.specs.Lists.{allOf, isEmpty}
 use Rattle.model.specs.Tables.{Table, Expression, columnsOf}
 use Rattle.model.specs.WellFormed.{ascending, noRepeats, inScope, comparisonFormed, inRange, againstLimited, expressionFormed, conditionLimited}
 use Rattle.layout.specs.Reading.{State, noExpression, current}

@@ -1,35 +1,16 @@
--- Laws of tests and of the words for lists. Assumes nothing.
+-- Laws of the words for lists. Assumes nothing.
 use mathlib.Core.Path.{_≡_, refl, sym, ap, _∙_}
 use mathlib.Core.Logic.{_⊎_, inl, inr}
-use mathlib.Core.Bool.{Bool, true, false, not, cond, _||_}
-use mathlib.Core.List.{List, [], _∷_, _++_, append-assoc, List·Memᴰ·head, List·Memᴰ·tail, List·Memᴰ·not-nil, List·Memᴰ·cases-cons, List·Memᴰ·append-cases, Memᴰ·append-left, Memᴰ·append-right}
-use Prim.Native.Nat.{suc}
-use lib.ListN.{length, take, drop}
+use mathlib.Core.Bool.{Bool, true, false, not, cond, or-assoc, and-assoc, and-or-distrib-right, _&&_, _||_}
+use mathlib.Core.List.{List, [], _∷_, _++_, map, append-nil, append-assoc, List·Memᴰ·head, List·Memᴰ·tail, List·Memᴰ·not-nil, List·Memᴰ·cases-cons, List·Memᴰ·append-cases, Memᴰ·append-left, Memᴰ·append-right}
 use mathlib.Core.Option.{none, some, Option·none-ne-some, Option·some-injective}
+use Prim.Native.Nat.{ℕ, zero, suc, _+_, _≤_}
+use native.Mathlib.Omega.{arith}
+use lib.ListN.{length, take, drop, replicate, length-append}
 use mir.Facts.{and-yes, yes-and, or-yes}
 use lib.Dec.{T, T-not}
-use Rattle.model.specs.Lists.{pairwise, _∈_, SameSet, Distinct, anyOf, allOf, filter, find, once, flatMap}
-
--- ---- tests
-pub or-left : (a b : Bool) → T a → T (a || b)
-or-left true b t = tt
-or-left false b t = absurd t
-
-pub or-right : (a b : Bool) → T b → T (a || b)
-or-right true b t = tt
-or-right false b t = t
-
-pub T-is : (a : Bool) → T a → a ≡ true
-T-is true t = refl
-T-is false t = absurd t
-
-pub not-is : (a : Bool) → T (not a) → a ≡ false
-not-is true t = absurd t
-not-is false t = refl
-
-pub stable : (b : Bool) → (T (not b) → ⊥) → T b
-stable true f = tt
-stable false f = f tt
+use Rattle.base.specs.Lists.{_∈_, SameSet, Distinct, anyOf, allOf, filter, find, once, concat, isEmpty, flatMap, pairwise, lastOf, inLast}
+use Rattle.base.proofs.Tests.{T-is, or-left, or-right, neither}
 
 module _ {A : Type 0} where
   -- ---- any and all
@@ -195,3 +176,148 @@ module _ {A : Type 0} (p : A → A → Bool) where
   pairwise-is is [] (y ∷ ys) t = absurd t
   pairwise-is is (x ∷ xs) [] t = absurd t
   pairwise-is is (x ∷ xs) (y ∷ ys) t = let (h, k) = and-yes (p x y) (pairwise p xs ys) t in rw (is x y h, pairwise-is is xs ys k)
+
+-- ---- lists that are joined
+module _ {A : Type 0} (p : A → Bool) where
+  pub any-append : (xs ys : List A) → anyOf p (xs ++ ys) ≡ (anyOf p xs || anyOf p ys)
+  any-append [] ys = refl
+  any-append (x ∷ xs) ys = rw (any-append xs ys) (sym (or-assoc (p x) (anyOf p xs) (anyOf p ys)))
+
+  pub all-append : (xs ys : List A) → allOf p (xs ++ ys) ≡ (allOf p xs && allOf p ys)
+  all-append [] ys = refl
+  all-append (x ∷ xs) ys = rw (all-append xs ys) (sym (and-assoc (p x) (allOf p xs) (allOf p ys)))
+
+  pub any-and : (b : Bool) (xs : List A) → anyOf (λ x. p x && b) xs ≡ (anyOf p xs && b)
+  any-and b [] = refl
+  any-and b (x ∷ xs) = rw (any-and b xs) (sym (and-or-distrib-right (p x) (anyOf p xs) b))
+
+  pub all-split : (xs ys : List A) → T (allOf p (xs ++ ys)) → T (allOf p xs) × T (allOf p ys)
+  all-split xs ys t = and-yes (allOf p xs) (allOf p ys) (rw (all-append xs ys) at t)
+
+  -- one among others
+  pub all-among : {all : List A} (xs : List A) (x : A) (ys : List A) → all ≡ xs ++ x ∷ ys → T (allOf p all) → T (p x)
+  all-among xs x ys q t = all-has p (Memᴰ·append-right xs (List·Memᴰ·head refl)) (rw q at t)
+
+  pub all-concat : (xs : List (List A)) → T (allOf p (concat xs)) → T (allOf (allOf p) xs)
+  all-concat [] t = tt
+  all-concat (x ∷ xs) t =
+      let (k, l) = all-split x (concat xs) t in
+      yes-and (allOf p x) (allOf (allOf p) xs) k (all-concat xs l)
+
+  pub filter-append : (xs ys : List A) → filter p (xs ++ ys) ≡ filter p xs ++ filter p ys
+  filter-append [] ys = refl
+  filter-append (x ∷ xs) ys = go (p x) (filter-append xs ys)
+    where
+      go : (b : Bool) → filter p (xs ++ ys) ≡ filter p xs ++ filter p ys
+          → cond b (x ∷ filter p (xs ++ ys)) (filter p (xs ++ ys)) ≡ cond b (x ∷ filter p xs) (filter p xs) ++ filter p ys
+      go true e = rw e
+      go false e = e
+
+  pub filter-length : (xs : List A) → length (filter p xs) ≤ length xs
+  filter-length [] = omega arith
+  filter-length (x ∷ xs) = go (p x) (filter-length xs)
+    where
+      go : (b : Bool) → length (filter p xs) ≤ length xs → length (cond b (x ∷ filter p xs) (filter p xs)) ≤ suc (length xs)
+      go true h = omega arith
+      go false h = omega arith
+
+pub length-concat : {A : Type 0} (xs ys : List (List A)) → length (concat (xs ++ ys)) ≡ length (concat xs) + length (concat ys)
+length-concat [] ys = omega arith
+length-concat (x ∷ xs) ys = rw (length-append x (concat (xs ++ ys)), length-append x (concat xs), length-concat xs ys) (omega arith)
+
+-- ---- tests that agree
+module _ {A : Type 0} (p q : A → Bool) where
+  pub any-cong : (xs : List A) → ((x : A) → x ∈ xs → p x ≡ q x) → anyOf p xs ≡ anyOf q xs
+  any-cong [] h = refl
+  any-cong (x ∷ xs) h = rw (h x (List·Memᴰ·head refl), any-cong xs (λ y m. h y (List·Memᴰ·tail m)))
+
+  pub all-weaker : ((x : A) → T (p x) → T (q x)) → (xs : List A) → T (allOf p xs) → T (allOf q xs)
+  all-weaker f [] t = tt
+  all-weaker f (x ∷ xs) t =
+      let (k, l) = and-yes (p x) (allOf p xs) t in
+      yes-and (q x) (allOf q xs) (f x k) (all-weaker f xs l)
+
+  pub all-both : (xs : List A) → T (allOf p xs) → T (allOf q xs) → T (allOf (λ x. p x && q x) xs)
+  all-both [] t u = tt
+  all-both (x ∷ xs) t u =
+      let (k, l) = and-yes (p x) (allOf p xs) t in
+      let (m, n) = and-yes (q x) (allOf q xs) u in
+      yes-and (p x && q x) (allOf (λ y. p y && q y) xs) (yes-and (p x) (q x) k m) (all-both xs l n)
+
+-- ---- one element more, at the end
+module _ {A : Type 0} where
+  pub all-snoc : (p : A → Bool) (xs : List A) (a : A) → T (allOf p xs) → T (p a) → T (allOf p (xs ++ a ∷ []))
+  all-snoc p xs a t h = rw (all-append p xs (a ∷ [])) (yes-and (allOf p xs) (p a && true) t (yes-and (p a) true h tt))
+
+  pub none-snoc : (p : A → Bool) (xs : List A) (a : A) → T (not (anyOf p xs)) → T (not (p a)) → T (not (anyOf p (xs ++ a ∷ [])))
+  none-snoc p xs a t h = rw (any-append p xs (a ∷ [])) (neither (anyOf p xs) (p a || false) t (neither (p a) false h tt))
+
+  pub some-snoc : (xs : List A) (a : A) → T (not (isEmpty (xs ++ a ∷ [])))
+  some-snoc [] a = tt
+  some-snoc (x ∷ xs) a = tt
+
+pub map-snoc : {A B : Type 0} (f : A → B) (l : List A) (x : A) → map f (l ++ x ∷ []) ≡ map f l ++ f x ∷ []
+map-snoc f [] x = refl
+map-snoc f (y ∷ l) x = ap (λ (m : List _). f y ∷ m) (map-snoc f l x)
+
+pub flatMap-snoc : {A B : Type 0} (f : A → List B) (xs : List A) (x : A) → flatMap (xs ++ x ∷ []) f ≡ flatMap xs f ++ f x
+flatMap-snoc f xs x = flatMap-append xs (x ∷ []) f ∙ rw append-nil
+
+-- ---- images
+module _ {A B : Type 0} where
+  pub map-cong : (f g : A → B) (xs : List A) → ((x : A) → x ∈ xs → f x ≡ g x) → map f xs ≡ map g xs
+  map-cong f g [] h = refl
+  map-cong f g (x ∷ xs) h = rw (h x (List·Memᴰ·head refl), map-cong f g xs (λ y m. h y (List·Memᴰ·tail m)))
+
+  pub map-back : (f : A → B) (g : B → A) → ((x : A) → g (f x) ≡ x) → (l : List A) → map g (map f l) ≡ l
+  map-back f g e [] = refl
+  map-back f g e (x ∷ l) = rw (e x, map-back f g e l)
+
+  pub map-replicate : (f : A → B) (n : ℕ) (x : A) → map f (replicate n x) ≡ replicate n (f x)
+  map-replicate f zero x = refl
+  map-replicate f (suc n) x = rw (map-replicate f n x)
+
+-- ---- the last of some lists
+module _ {A : Type 0} where
+  pub last-append : (xs : List (List A)) (x : List A) → lastOf (xs ++ x ∷ []) ≡ x
+  last-append [] x = refl
+  last-append (y ∷ []) x = refl
+  last-append (y ∷ z ∷ zs) x = last-append (z ∷ zs) x
+
+  pub in-last : (xs : List (List A)) (x : List A) (a : A) → inLast (xs ++ x ∷ []) a ≡ xs ++ (x ++ a ∷ []) ∷ []
+  in-last [] x a = refl
+  in-last (y ∷ []) x a = refl
+  in-last (y ∷ z ∷ zs) x a = rw (in-last (z ∷ zs) x a)
+
+  -- with one more element in it
+  pub all-last : (p : List A → Bool) (xs : List (List A)) (a : A) → T (allOf p xs) → (T (p (lastOf xs)) → T (p (lastOf xs ++ a ∷ [])))
+      → T (allOf p (inLast xs a))
+  all-last p [] a t f = tt
+  all-last p (x ∷ []) a t f = yes-and (p (x ++ a ∷ [])) true (f ((and-yes (p x) true t) .0)) tt
+  all-last p (x ∷ y ∷ ys) a t f =
+      let (k, l) = and-yes (p x) (allOf p (y ∷ ys)) t in
+      yes-and (p x) (allOf p (inLast (y ∷ ys) a)) k (all-last p (y ∷ ys) a l f)
+
+  pub length-last : (xs : List (List A)) (a : A) → length (inLast xs a) ≡ length xs
+  length-last [] a = refl
+  length-last (x ∷ []) a = refl
+  length-last (x ∷ y ∷ ys) a = ap suc (length-last (y ∷ ys) a)
+
+  pub some-last : (xs : List (List A)) (a : A) → T (not (isEmpty xs)) → T (not (isEmpty (inLast xs a)))
+  some-last [] a t = t
+  some-last (x ∷ []) a t = tt
+  some-last (x ∷ y ∷ ys) a t = tt
+
+  -- where a list has just been begun, all are filled after one more
+  pub last-filled : (xs : List (List A)) (a : A) → T (allOf (λ x. not (isEmpty x)) xs)
+      → T (allOf (λ x. not (isEmpty x)) (inLast (xs ++ [] ∷ []) a))
+  last-filled xs a t = rw (in-last xs [] a) (all-snoc (λ z. not (isEmpty z)) xs (a ∷ []) t tt)
+
+  pub concat-more : (xs : List (List A)) → concat (xs ++ [] ∷ []) ≡ concat xs
+  concat-more [] = refl
+  concat-more (x ∷ xs) = rw (concat-more xs)
+
+  pub concat-last : (xs : List (List A)) (a : A) → T (not (isEmpty xs)) → concat (inLast xs a) ≡ concat xs ++ a ∷ []
+  concat-last [] a t = absurd t
+  concat-last (x ∷ []) a t = simp (append-nil)
+  concat-last (x ∷ y ∷ ys) a t = rw (concat-last (y ∷ ys) a tt) (sym (append-assoc x (concat (y ∷ ys)) (a ∷ [])))

@@ -1,0 +1,4 @@
+pub mod Lists
+pub mod Options
+pub mod Arrays
+pub mod Bytes
