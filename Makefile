@@ -2,7 +2,7 @@
 
 # Proves and builds the deciding program, and runs it on an example: a job that asks for rows by a column that isn't stored.
 run: setup
-	@rt check decide
+	@tools/prove decide
 	@target/bin/decide < crates/decide/stdin
 
 # Everything that is checked; the gate, .ci/run, calls this.

@@ -11,7 +11,7 @@ use codec::Answer;
 use job::Job;
 use pobghine::Decision;
 
-// The most bytes that a refusal or a verdict takes.
+// Enough bytes for every text: a verdict would take as many if its kind and the listing of 16 columns had three digits each.
 pub const MOST: usize = 81;
 
 // A byte at a place, and the next place.
