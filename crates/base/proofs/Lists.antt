@@ -263,8 +263,20 @@ map-snoc f (y ∷ l) x = ap (λ (m : List _). f y ∷ m) (map-snoc f l x)
 pub flatMap-snoc : {A B : Type 0} (f : A → List B) (xs : List A) (x : A) → flatMap (xs ++ x ∷ []) f ≡ flatMap xs f ++ f x
 flatMap-snoc f xs x = flatMap-append xs (x ∷ []) f ∙ rw append-nil
 
+-- each element by itself
+abbrev pub itself : {A : Type 0} → A → List A
+itself x = x ∷ []
+
+pub each-itself : {A : Type 0} (l : List A) → flatMap l itself ≡ l
+each-itself [] = refl
+each-itself (x ∷ l) = ap (λ (m : List _). x ∷ m) (each-itself l)
+
 -- ---- images
 module _ {A B : Type 0} where
+  pub flatMap-map : {C : Type 0} (f : A → B) (g : B → List C) (xs : List A) → flatMap (map f xs) g ≡ flatMap xs (λ x. g (f x))
+  flatMap-map f g [] = refl
+  flatMap-map f g (x ∷ xs) = ap (λ (r : List _). g (f x) ++ r) (flatMap-map f g xs)
+
   pub map-cong : (f g : A → B) (xs : List A) → ((x : A) → x ∈ xs → f x ≡ g x) → map f xs ≡ map g xs
   map-cong f g [] h = refl
   map-cong f g (x ∷ xs) h = rw (h x (List·Memᴰ·head refl), map-cong f g xs (λ y m. h y (List·Memᴰ·tail m)))

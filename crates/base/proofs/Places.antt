@@ -1,14 +1,14 @@
 -- What stands at each place of a list, and lists that are given by it. Assumes nothing.
 use mathlib.Core.Path.{_≡_, refl, sym, ap, _∙_}
 use mathlib.Core.Bool.{Bool, not}
-use mathlib.Core.List.{List, [], _∷_, _++_, map, List·Memᴰ·head, List·Memᴰ·tail}
+use mathlib.Core.List.{List, [], _∷_, _++_, map, List·Memᴰ·head, List·Memᴰ·tail, List·Memᴰ·not-nil}
 use Prim.Native.Nat.{ℕ, zero, suc, _+_, _<_}
 use native.Mathlib.Omega.{arith}
 use lib.ListN.{length, getD, replicate}
 use lib.Seq.{ext-getD, getD-append-add}
 use lib.Dec.{T}
 use mir.Facts.{and-yes, yes-and}
-use Rattle.base.specs.Lists.{_∈_, anyOf, allOf, pairwise, tabulate}
+use Rattle.base.specs.Lists.{_∈_, anyOf, allOf, pairwise, tabulate, range}
 use Rattle.base.proofs.Tests.{not-and}
 
 module _ {A : Type 0} where
@@ -56,6 +56,16 @@ module _ {A : Type 0} where
   tabulate-cong zero f g h = refl
   tabulate-cong (suc n) f g h = rw (h 0 (omega arith), tabulate-cong n (λ k. f (suc k)) (λ k. g (suc k)) (λ i l. h (suc i) (omega arith)))
 
+  -- one more
+  pub tabulate-snoc : (n : ℕ) (f : ℕ → A) → tabulate (suc n) f ≡ tabulate n f ++ f n ∷ []
+  tabulate-snoc zero f = refl
+  tabulate-snoc (suc n) f = ap (λ (m : List A). f 0 ∷ m) (tabulate-snoc n (λ k. f (suc k)))
+
+  pub tabulate-has : (n : ℕ) (f : ℕ → A) {x : A} → x ∈ tabulate n f → (i : ℕ) × (i < n) × (f i ≡ x)
+  tabulate-has zero f m = absurd (List·Memᴰ·not-nil m)
+  tabulate-has (suc n) f (List·Memᴰ·head e) = (0, omega arith, sym e)
+  tabulate-has (suc n) f (List·Memᴰ·tail m) = let (i, h, e) = tabulate-has n (λ k. f (suc k)) m in (suc i, omega arith, e)
+
   pub all-tabulated : (p : A → Bool) (n : ℕ) (f : ℕ → A) → ((i : ℕ) → i < n → T (p (f i))) → T (allOf p (tabulate n f))
   all-tabulated p zero f h = tt
   all-tabulated p (suc n) f h =
@@ -71,6 +81,14 @@ tabulate-same (suc n) x = ap (λ (m : List _). x ∷ m) (tabulate-same n x)
 pub tabulate-map : {A B : Type 0} (f : A → B) (xs : List A) (d : A) → tabulate (length xs) (λ i. f (getD xs i d)) ≡ map f xs
 tabulate-map f [] d = refl
 tabulate-map f (x ∷ xs) d = ap (λ (m : List _). f x ∷ m) (tabulate-map f xs d)
+
+pub map-tabulate : {A B : Type 0} (g : A → B) (n : ℕ) (f : ℕ → A) → map g (tabulate n f) ≡ tabulate n (λ i. g (f i))
+map-tabulate g zero f = refl
+map-tabulate g (suc n) f = ap (λ (m : List _). g (f 0) ∷ m) (map-tabulate g n (λ k. f (suc k)))
+
+-- ---- the numbers below n
+pub range-has : (n : ℕ) {c : ℕ} → c ∈ range n → c < n
+range-has n m = let (i, h, e) = tabulate-has n (λ k. k) m in rw (← e) h
 
 -- ---- two lists, place by place
 module _ {A B : Type 0} (p : A → B → Bool) where

@@ -1,10 +1,12 @@
-// The ground floor: bytes as indices, and bytes among others. The words for lists, options, arrays and bytes that definitions use are in specs/,
-// their laws in proofs/.
+// The ground floor: small functions on bytes. The words for lists, options, arrays and bytes that definitions use are in specs/, their laws
+// in proofs/.
 ghost use mathlib.Core.Path.{_≡_};
+ghost use mathlib.Core.List.{[], _∷_};
 ghost use Prim.Native.Nat.{_≤_, _<_};
 ghost use lib.ListN.{length, take};
 ghost use lib.Dec.{eqb};
 ghost use Rattle.base.specs.Lists.{anyOf};
+ghost use Rattle.base.specs.Bytes.{Room, Puts};
 
 // A byte as an index. It stays below 256.
 pub fn wide(b: u8) -> usize
@@ -26,4 +28,27 @@ pub fn is_among(a: &[u8], n: usize, x: u8) -> bool
         i += 1;
     }
     false
+}
+
+// A byte at a place, and the next place.
+pub fn put(out: &mut [u8], at: usize, b: u8) -> usize
+    requires { ⌜ Room (now out) at (b ∷ []) ⌝ }
+    ensures { λ r. ⌜ Puts (now (out .entry)) (now (out .exit)) at r (b ∷ []) ⌝ }
+{
+    out[at] = b;
+    at + 1
+}
+
+// Some bytes from a place on, and the next place.
+pub fn put_bytes(out: &mut [u8], at: usize, bytes: &[u8]) -> usize
+    requires { ⌜ Room (now out) at (now bytes) ⌝ }
+    ensures { λ r. ⌜ Puts (now (out .entry)) (now (out .exit)) at r (now (bytes .entry)) ⌝ }
+{
+    let mut p = at;
+    let mut i = 0;
+    while i < bytes.len() {
+        p = put(out, p, bytes[i]);
+        i += 1;
+    }
+    p
 }
