@@ -1,7 +1,7 @@
 -- Lists in arrays, and the one law of a loop that fills an array place by place. Assumes nothing.
 use mathlib.Core.Path.{_≡_, refl, sym, ap, _∙_}
 use mathlib.Core.Logic.{⊎-elim}
-use mathlib.Core.List.{List, [], _∷_, _++_, map, append-assoc, append-nil, List·Memᴰ·head, List·Memᴰ·tail}
+use mathlib.Core.List.{List, [], _∷_, _++_, map, map-append, append-assoc, append-nil, List·Memᴰ·head, List·Memᴰ·tail}
 use Prim.Native.Nat.{ℕ, zero, suc, _+_, _-_, _≤_, _<_}
 use native.Mathlib.Omega.{arith}
 use native.Mathlib.Numerals.{add-one, unary-clauses}
@@ -10,7 +10,7 @@ use lib.ListN.{length, getD, set, take, drop, replicate, length-append, length-s
 use lib.Seq.{set-append-seam, set-append-left, getD-append-add, getD-set-same, getD-set-other, set-getD, ext-getD, take-append-seam, drop-append-seam, getD-drop}
 use Rattle.base.specs.Lists.{_∈_, tabulate}
 use Rattle.base.specs.Arrays.{padded, EmptyPast, filled}
-use Rattle.base.proofs.Lists.{map-snoc}
+use Rattle.base.proofs.Lists.{map-snoc, map-replicate}
 use Rattle.base.proofs.Tests.{by-less}
 use Rattle.base.proofs.Places.{behind-at, replicate-at, tabulated, tabulate-length, tabulate-at, tabulate-map}
 
@@ -50,6 +50,11 @@ module _ {A : Type 0} (n : ℕ) (d : A) (l : List A) where
       let e : length l + (i - length l) ≡ i = omega arith in
       ap (λ (k : ℕ). getD (padded n d l) k d) (sym e) ∙ getD-append-add l (replicate (n - length l) d) (i - length l) d
       ∙ replicate-at (n - length l) (i - length l) d
+
+-- its image
+pub map-padded : {A B : Type 0} (f : A → B) (n : ℕ) (d : A) (l : List A) → map f (padded n d l) ≡ padded n (f d) (map f l)
+map-padded f n d l =
+    map-append f l (replicate (n - length l) d) ∙ rw (map-replicate f (n - length l) d, length-map l f)
 
 -- the image of one element more
 pub mapped-more : {A B : Type 0} (n : ℕ) (d : B) (f : A → B) (l : List A) (x : A) → length l < n

@@ -7,20 +7,22 @@ use Prim.Native.Nat.{ℕ, suc, _+_, _<_, _≤_}
 use native.Mathlib.Omega.{arith}
 use lib.ListN.{length, getD, drop, drop-of-length-le}
 use lib.Seq.{drop-cons}
-use Rattle.base.specs.Options.{andThen}
+use Rattle.base.proofs.Options.{none-of, then-none, then-some}
+use Rattle.base.proofs.Turns.{first-none, first-more, first-found}
+use Rattle.base.specs.Options.{andThen, firstOf}
 use Rattle.zone.specs.declared.Constraint.{Constraint}
 use Rattle.zone.specs.Zone.{Zone}
 use Rattle.zone.specs.Array.{zoneIn, laid}
 use Rattle.zone.specs.Uses.{InArray}
-use Rattle.search.specs.declared.Choices.{Choices}
-use Rattle.search.specs.Search.{firstOf, chosen, broken}
-use Rattle.search.specs.Records.{waysIn, choicesIn}
-use Rattle.search.specs.Uses.{ChoicesFit, Chooses}
-use Rattle.search.proofs.First.{first-none, first-more, first-found}
-use Rattle.search.proofs.Sizes.{SizedChoices}
-use Rattle.search.proofs.Ahead.{noConstraint, way, clause, ways-length, ways-at, choices-length, choices-at}
-use Rattle.search.proofs.Found.{Found, none-of, then-none, then-some, ends-length}
-use Rattle.search.proofs.Chosen.{Choice, chosen-found}
+use Rattle.conditions.specs.declared.Choices.{Choices}
+use Rattle.conditions.specs.Breaking.{chosen}
+use Rattle.search.specs.Search.{broken}
+use Rattle.conditions.specs.Records.{waysIn, choicesIn}
+use Rattle.conditions.specs.Uses.{ChoicesFit, Chooses}
+use Rattle.conditions.proofs.Sizes.{SizedChoices}
+use Rattle.conditions.proofs.Ahead.{noConstraint, way, clause, ways-length, ways-at, choices-length, choices-at}
+use Rattle.conditions.proofs.Found.{Found, ends-length}
+use Rattle.conditions.proofs.Chosen.{Choice, chosen-found}
 
 -- what comes of a way in which clause j is broken: rows of the zone that also break the later clauses, or none
 abbrev pub tried : Choices → ℕ → Zone → Constraint → Option Zone

@@ -1,15 +1,2 @@
-pub mod First
-pub mod Stands
-pub mod Sought
-pub mod Breaking
-pub mod Pairs
-pub mod Clauses
-pub mod Filling
-pub mod Held
-pub mod Sizes
-pub mod Ahead
-pub mod Found
-pub mod Chosen
-pub mod Conditions
+pub mod Broken
 pub mod Levels
-pub mod Meeting

@@ -1,4 +1,2 @@
 pub mod Search
-pub mod Pairs
-pub mod Records
 pub mod Uses

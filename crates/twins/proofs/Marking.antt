@@ -20,12 +20,12 @@ use Rattle.zone.specs.Zone.{Zone, canDiffer}
 use Rattle.zone.specs.Array.{zoneIn, laid}
 use Rattle.solver.specs.Solver.{imposedAll}
 use Rattle.solver.specs.Lists.{reached}
-use Rattle.search.specs.Search.{byClause}
-use Rattle.search.specs.Pairs.{ifDiffer, pairsOf}
-use Rattle.search.specs.Records.{conditionOf}
-use Rattle.search.specs.Uses.{Meeting}
-use Rattle.search.proofs.Conditions.{clauseAt}
-use Rattle.search.proofs.Meeting.{no-rows, rows-without, rows-with, no-clause-left}
+use Rattle.conditions.specs.Meeting.{byClause}
+use Rattle.twins.specs.Pairs.{ifDiffer, pairsOf}
+use Rattle.conditions.specs.Records.{conditionOf}
+use Rattle.conditions.specs.Uses.{Meeting}
+use Rattle.conditions.proofs.Conditions.{clauseAt}
+use Rattle.conditions.proofs.Meeting.{no-rows, rows-without, rows-with, no-clause-left}
 use Rattle.twins.specs.Marks.{marked}
 use Rattle.twins.specs.Uses.{Marks}
 

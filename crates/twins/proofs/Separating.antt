@@ -11,9 +11,11 @@ use lib.IntN.{ℤ}
 use lib.Dec.{T, ltb, lt→ltb}
 use mir.Facts.{yes-and}
 use borrow.Author.Tests.{ne-eqb}
-use Rattle.solver.specs.Obeying.{ObeysAll}
+use Rattle.base.proofs.Options.{none-of}
+use Rattle.base.proofs.Turns.{first-none, first-more, first-found}
 use Rattle.base.specs.Lists.{at}
-use Rattle.base.specs.Options.{isSome}
+use Rattle.base.specs.Options.{isSome, orElse, firstOf}
+use Rattle.solver.specs.Obeying.{ObeysAll}
 use Rattle.words.specs.Compare.{less, more}
 use Rattle.model.specs.Tables.{Comparison}
 use Rattle.model.specs.Coded.{opAt}
@@ -27,11 +29,9 @@ use Rattle.solver.proofs.Solver.{imposed-answers}
 use Rattle.solver.specs.Solver.{comparisonFits, imposed}
 use Rattle.solver.specs.Lists.{coded}
 use Rattle.solver.specs.Uses.{ImposesOne}
-use Rattle.search.specs.Search.{orElse, firstOf}
-use Rattle.search.specs.Records.{laidIf}
-use Rattle.search.specs.Pairs.{columnsBy, apart, someApart}
-use Rattle.search.proofs.First.{first-none, first-more, first-found}
-use Rattle.search.proofs.Found.{found-there, Ends, ends-none, ends-some, ends-length, none-of}
+use Rattle.conditions.specs.Records.{laidIf}
+use Rattle.twins.specs.Pairs.{columnsBy, apart, someApart}
+use Rattle.conditions.proofs.Found.{found-there, Ends, ends-none, ends-some, ends-length}
 use Rattle.twins.specs.Uses.{Separates}
 
 -- a column compared with another, as it is coded

@@ -11,6 +11,7 @@ use lib.Seq.{getD-append-seam, getD-take, take-at, ext-getD}
 use lib.IntN.{pos}
 use lib.Dec.{T, ltb, eqb, eqb→eq, eqb-refl}
 use mir.Facts.{and-yes, yes-and}
+use Rattle.base.proofs.Places.{element}
 use Rattle.base.specs.Lists.{_∈_, allOf, filter}
 use Rattle.base.proofs.Lists.{any-has, has-any, all-has, has-all, filter-has, pairwise-length, pairwise-append, pairwise-split}
 use Rattle.base.proofs.Tests.{same-test, T-is, not-is}
@@ -21,7 +22,6 @@ use Rattle.model.specs.Rows.{someRow, twoRows, sameRow}
 use Rattle.model.proofs.Rows.{some-has, has-some, two-has, has-two, is-same-row}
 use Rattle.twins.specs.Twins.{below, isStored, hidden, rank, twinOf, twinBounds}
 use Rattle.twins.proofs.Rows.{firstRow, secondRow}
-use Rattle.search.proofs.Held.{element}
 use Rattle.twins.proofs.Lists.{filter-append, filter-length, behind-at, map-at, map-cong, pairwise-at, at-pairwise, pairwise-maps, maps-pairwise}
 
 -- ---- the numbers below n

@@ -4,10 +4,11 @@ use mathlib.Core.Bool.{Bool, true, false, false≢true}
 use mathlib.Core.List.{List}
 use mathlib.Core.Option.{Option, none, some}
 use Prim.Native.Nat.{ℕ}
+use Rattle.base.proofs.Options.{none-of}
 use Rattle.base.specs.Options.{isSome}
 use Rattle.zone.specs.Zone.{Zone}
-use Rattle.search.specs.Records.{laidIf}
-use Rattle.search.proofs.Found.{none-of, Ends, ends-some}
+use Rattle.conditions.specs.Records.{laidIf}
+use Rattle.conditions.proofs.Found.{Ends, ends-some}
 
 -- r and e are what the search within answers and leaves, i what it finds, o what the whole search does
 module _ (i : Option Zone) (old : List ℕ) {r : Bool} {e : List ℕ} (ends : Ends i old r e) where

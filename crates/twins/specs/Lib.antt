@@ -1,3 +1,4 @@
+pub mod Pairs
 pub mod Twins
 pub mod Records
 pub mod Marks

@@ -12,9 +12,9 @@ use Rattle.job.specs.declared.Clause.{Clause}
 use Rattle.job.specs.declared.Expression.{Expression}
 use Rattle.job.specs.declared.Job.{Job}
 use Rattle.zone.specs.Uses.{InArray}
-use Rattle.search.specs.declared.Choices.{Choices}
-use Rattle.search.specs.Records.{conditionOf}
-use Rattle.search.specs.Uses.{conditionFits, Small, ChoicesFit, Meeting}
+use Rattle.conditions.specs.declared.Choices.{Choices}
+use Rattle.conditions.specs.Records.{conditionOf}
+use Rattle.conditions.specs.Uses.{conditionFits, Small, ChoicesFit, Meeting}
 use Rattle.twins.specs.declared.TwinRows.{TwinRows}
 
 -- ---- Two rows as one

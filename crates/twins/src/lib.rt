@@ -11,19 +11,20 @@ ghost use Rattle.model.specs.Tables.{value};
 ghost use Rattle.job.specs.Meaning.{boundsOf};
 ghost use Rattle.zone.specs.Zone.{canDiffer};
 ghost use Rattle.zone.specs.Array.{zoneIn};
-ghost use Rattle.search.specs.Search.{outside, byClause};
-ghost use Rattle.search.specs.Pairs.{someApart, ifDiffer, pairsOf};
-ghost use Rattle.search.specs.Records.{choicesIn, conditionOf, laidIf};
+ghost use Rattle.search.specs.Search.{outside};
+ghost use Rattle.conditions.specs.Meeting.{byClause};
+ghost use Rattle.twins.specs.Pairs.{someApart, ifDiffer, pairsOf};
+ghost use Rattle.conditions.specs.Records.{choicesIn, conditionOf, laidIf};
 ghost use Rattle.twins.specs.Twins.{below};
 ghost use Rattle.twins.specs.Records.{twinsOf, columnMore, taken, twinsRecord, renamedOne, renamedClause, renamedExpression};
 ghost use Rattle.twins.specs.Marks.{marked};
 ghost use Rattle.twins.specs.Uses.{FewColumns, TwinsRoom, RenamesOne, RenamesClause, Renames, TwinsStand, Twinned, Separates, Differs, DiffersTwice, Marks, MarksTwice, SearchesIn};
+use conditions::Choices;
 use job::Clause;
 use job::Column;
 use job::Comparison;
 use job::Expression;
 use job::Job;
-use search::Choices;
 
 // At most so many columns in two rows as one.
 pub const COLUMNS: usize = 32;
@@ -248,7 +249,7 @@ fn differ_in(
     let mut y = [0u64; zone::SIZE];
     let mut q = 0;
     while q < size {
-        if search::meet(z, columns, clauses[q], &mut y) {
+        if conditions::meet(z, columns, clauses[q], &mut y) {
             if separate(&mut y, columns, cs, twin) {
                 zone::copy(&y, &mut *out, columns + 1);
                 return true;
@@ -278,7 +279,7 @@ pub fn differ_in_both(
     let mut y = [0u64; zone::SIZE];
     let mut q = 0;
     while q < size {
-        if search::meet(z, columns, clauses[q], &mut y) {
+        if conditions::meet(z, columns, clauses[q], &mut y) {
             if differ_in(&y, columns, k, cs, twin, &mut *out) {
                 return true;
             }
@@ -325,7 +326,7 @@ fn mark_in(
     let mut y = [0u64; zone::SIZE];
     let mut q = 0;
     while q < size {
-        if search::meet(z, columns, clauses[q], &mut y) {
+        if conditions::meet(z, columns, clauses[q], &mut y) {
             mark(&y, columns, width, twin, &mut *marks);
         }
         q += 1;
@@ -350,7 +351,7 @@ pub fn mark_in_both(
     let mut y = [0u64; zone::SIZE];
     let mut q = 0;
     while q < size {
-        if search::meet(z, columns, clauses[q], &mut y) {
+        if conditions::meet(z, columns, clauses[q], &mut y) {
             mark_in(&y, columns, k, width, twin, &mut *marks);
         }
         q += 1;
@@ -377,7 +378,7 @@ pub fn outside_in(
     let mut y = [0u64; zone::SIZE];
     let mut q = 0;
     while q < size {
-        if search::meet(z, columns, clauses[q], &mut y) {
+        if conditions::meet(z, columns, clauses[q], &mut y) {
             if search::outside(&y, columns, p, k, &mut *out) {
                 return true;
             }

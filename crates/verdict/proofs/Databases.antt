@@ -8,9 +8,9 @@ use lib.ListN.{length, getD, take, drop, length-append, length-take, length-drop
 use lib.Seq.{getD-take, getD-drop, ext-getD}
 use lib.IntN.{ℤ, pos}
 use borrow.Author.Tests.{lt-ltb, le-ltb}
-use Rattle.model.proofs.Formed.{Formed}
 use Rattle.base.proofs.Arrays.{padded-past}
 use Rattle.base.proofs.Tests.{by-less}
+use Rattle.model.proofs.Formed.{Formed}
 use Rattle.model.specs.Tables as model
 use Rattle.model.specs.Tables.{Table, Row, TableRow, columnsOf, tableOf, uses, value, partOf}
 use Rattle.model.specs.Verdict.{columns, usesOther}

@@ -9,12 +9,13 @@ use Rattle.base.specs.Options.{isSome}
 use Rattle.model.specs.Tables.{Row, Job, conditionHolds}
 use Rattle.model.specs.WellFormed.{wellFormed}
 use Rattle.model.specs.Verdict.{columns, tablesDiffer, firstKind, kind1, kind2, kind3, kind4, kindOf, fixed}
-use Rattle.search.specs.Search.{choicesOf, outside}
-use Rattle.search.specs.Pairs.{someApart}
-use Rattle.search.proofs.Stands.{Stands, box-stands}
-use Rattle.search.proofs.Sought.{Sought, sought-as, sought-is, clauses-sought, met-sought}
-use Rattle.search.proofs.Breaking.{outside-sought}
-use Rattle.search.proofs.Pairs.{some-apart, pairs-sought, pairs-differ}
+use Rattle.conditions.specs.Breaking.{choicesOf}
+use Rattle.search.specs.Search.{outside}
+use Rattle.twins.specs.Pairs.{someApart}
+use Rattle.conditions.proofs.Stands.{Stands, box-stands}
+use Rattle.conditions.proofs.Sought.{Sought, sought-as, sought-is, clauses-sought, met-sought}
+use Rattle.search.proofs.Broken.{outside-sought}
+use Rattle.twins.proofs.Pairs.{some-apart, pairs-sought, pairs-differ}
 use Rattle.verdict.specs.Found.{twin, bothBounds, keepsOne, keepsOther, wantsOne, wantsOther, box, box2, found1, found2, found3, found4, unfixedIn, foundKind}
 use Rattle.twins.proofs.Lists.{some-cong}
 use Rattle.verdict.proofs.Reduced.{differ, asked3, asked4, unfixed, kind-1-sought, kind-2-sought, kind-3-sought, kind-4-sought, fixed-sought}

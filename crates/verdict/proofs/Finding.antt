@@ -5,13 +5,12 @@ use mathlib.Core.List.{List}
 use mathlib.Core.Option.{Option, none, some}
 use Prim.Native.Nat.{ℕ}
 use native.Mathlib.Omega.{arith}
-use Rattle.base.specs.Options.{isSome}
+use Rattle.base.specs.Options.{isSome, orElse}
 use Rattle.model.specs.Tables.{Job}
 use Rattle.model.specs.Verdict.{tablesDiffer, firstKind}
 use Rattle.zone.specs.Zone.{Zone}
-use Rattle.search.specs.Search.{orElse}
-use Rattle.search.specs.Records.{laidIf}
-use Rattle.search.proofs.Found.{Ends}
+use Rattle.conditions.specs.Records.{laidIf}
+use Rattle.conditions.proofs.Found.{Ends}
 use Rattle.verdict.specs.Found.{found1, found2, found3, found4, oneKind, oneFound, twoKind, twoFound, foundKind, finding}
 
 found-first : (a b : Option Zone) → isSome a ≡ true → orElse a b ≡ a

@@ -7,7 +7,7 @@ use native.Mathlib.Omega.{arith}
 use lib.ListN.{length}
 use lib.Dec.{T}
 use mir.Facts.{and-yes}
-use Rattle.base.specs.Options.{isSome}
+use Rattle.base.specs.Options.{isSome, orElse}
 use Rattle.model.specs.Tables.{Row, Job, Database}
 use Rattle.model.specs.WellFormed.{structured, limited, wellFormed}
 use Rattle.model.specs.Verdict.{tablesDiffer, firstKind, kindOf, extractRows, queryRows, Apart, Evidence, HandedOut}
@@ -15,7 +15,6 @@ use Rattle.model.specs.Pair.{emptyDatabase}
 use Rattle.model.proofs.Scope.{rows-cong}
 use Rattle.model.proofs.Theorems.{evidence-1, evidence-2, evidence-3, evidence-4}
 use Rattle.zone.specs.Zone.{Zone}
-use Rattle.search.specs.Search.{orElse}
 use Rattle.verdict.specs.Found.{found1, found2, found3, found4, foundKind, finding}
 use Rattle.verdict.proofs.Rows.{leastFound, firstBy, secondBy, firstHanded, secondHanded}
 use Rattle.verdict.proofs.Decided.{kind-2-found, kind-found}

@@ -8,7 +8,7 @@ use native.Mathlib.Omega.{arith}
 use lib.ListN.{length, getD, replicate}
 use lib.Dec.{T}
 use borrow.Author.Tests.{lt-ltb, le-leb, lt-leb}
-use Rattle.base.specs.Options.{isSome}
+use Rattle.base.specs.Options.{isSome, orElse}
 use Rattle.base.proofs.Tests.{by-less}
 use Rattle.base.proofs.Places.{replicate-at}
 use Rattle.model.specs.Tables as model
@@ -22,9 +22,8 @@ use Rattle.job.specs.declared.Job.{Job}
 use Rattle.job.specs.Meaning.{meaningOf}
 use Rattle.job.proofs.Records.{Sized}
 use Rattle.job.proofs.Columns.{width-is}
-use Rattle.search.specs.Search.{orElse}
-use Rattle.search.specs.Records.{laidIf}
-use Rattle.search.proofs.Stands.{Stands}
+use Rattle.conditions.specs.Records.{laidIf}
+use Rattle.conditions.proofs.Stands.{Stands}
 use Rattle.twins.specs.declared.TwinRows.{TwinRows}
 use Rattle.twins.specs.Records.{twinsRecord}
 use Rattle.twins.specs.Marks.{marked}

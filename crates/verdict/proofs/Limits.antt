@@ -6,14 +6,14 @@ use native.Mathlib.Omega.{arith}
 use lib.ListN.{length}
 use lib.Dec.{T, ltb, ltb→lt, lt→ltb}
 use mir.Facts.{and-yes, yes-and}
-use Rattle.model.proofs.Formed.{near}
 use Rattle.base.specs.Lists.{_∈_, allOf}
+use Rattle.model.proofs.Formed.{near}
 use Rattle.model.specs.Tables.{Against, column, number, Clause, Condition, Job}
 use Rattle.model.specs.WellFormed.{wellFormed}
 use Rattle.model.specs.Verdict.{columns}
 use Rattle.solver.specs.Solver.{boundsFit, againstFits, comparisonFits}
 use Rattle.solver.proofs.Formed.{outputs-declared, JobTaken, job-taken}
-use Rattle.search.specs.Uses.{conditionFits}
+use Rattle.conditions.specs.Uses.{conditionFits}
 use Rattle.twins.specs.Twins.{renamedSide, renamedComparison, renamed}
 use Rattle.verdict.specs.Found.{twin, bothBounds, keepsOne, keepsOther, wantsOne, wantsOther}
 use Rattle.twins.proofs.Twins.{twins-length, twins-most, twin-declared, twins-all}

@@ -9,10 +9,10 @@ use lib.IntN.{ℤ, pos}
 use lib.Dec.{T}
 use mir.Facts.{and-yes}
 use borrow.Author.Tests.{ne-eqb, lt-leb}
-use Rattle.model.proofs.Formed.{Formed, job-formed}
 use Rattle.base.specs.Lists.{at}
 use Rattle.base.proofs.Arrays.{take-padded, padded-length}
 use Rattle.base.proofs.Tests.{by-less}
+use Rattle.model.proofs.Formed.{Formed, job-formed}
 use Rattle.model.specs.Tables as model
 use Rattle.model.specs.Tables.{Row, value}
 use Rattle.model.specs.WellFormed.{structured, limited, wellFormed}

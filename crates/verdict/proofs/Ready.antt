@@ -9,8 +9,9 @@ use lib.ListN.{length, getD, take, replicate, length-map, List·getD-map}
 use lib.Seq.{length-take-le}
 use lib.IntN.{ℤ, pos}
 use lib.Dec.{T}
+use Rattle.base.proofs.Places.{element}
 use Rattle.base.specs.Lists.{_∈_, allOf, at}
-use Rattle.base.specs.Options.{andThen, isSome}
+use Rattle.base.specs.Options.{andThen, isSome, firstOf}
 use Rattle.base.specs.Arrays.{padded}
 use Rattle.base.proofs.Arrays.{padded-length}
 use Rattle.model.specs.Tables as model
@@ -28,14 +29,17 @@ use Rattle.job.specs.Meaning.{meaningOf, expressionOf}
 use Rattle.job.proofs.Records.{Sized}
 use Rattle.job.proofs.Columns.{width-is, bounds-are, extract-is, query-is}
 use Rattle.job.proofs.Counts.{outputs-fit, clauses-fit, comparisons-fit}
-use Rattle.search.specs.declared.Choices.{Choices}
-use Rattle.search.specs.Search.{choicesOf, firstOf, byClause, met, outside}
-use Rattle.search.specs.Pairs.{apart, someApart, ifDiffer, pairsOf}
-use Rattle.search.specs.Records.{conditionOf, choicesIn, choicesRecord, laidIf}
-use Rattle.search.specs.Uses.{conditionFits, Small, Meeting, Searches}
-use Rattle.search.proofs.Held.{element, choices-in, choices-fit, small-from}
-use Rattle.search.proofs.Stands.{Stands}
-use Rattle.search.proofs.Found.{Ends}
+use Rattle.conditions.specs.declared.Choices.{Choices}
+use Rattle.conditions.specs.Breaking.{choicesOf}
+use Rattle.conditions.specs.Meeting.{byClause, met}
+use Rattle.search.specs.Search.{outside}
+use Rattle.twins.specs.Pairs.{apart, someApart, ifDiffer, pairsOf}
+use Rattle.conditions.specs.Records.{conditionOf, choicesIn, choicesRecord, laidIf}
+use Rattle.conditions.specs.Uses.{conditionFits, Small, Meeting}
+use Rattle.search.specs.Uses.{Searches}
+use Rattle.conditions.proofs.Held.{choices-in, choices-fit, small-from}
+use Rattle.conditions.proofs.Stands.{Stands}
+use Rattle.conditions.proofs.Found.{Ends}
 use Rattle.twins.specs.declared.TwinRows.{TwinRows}
 use Rattle.twins.specs.Twins.{hidden, twinBounds, renamed}
 use Rattle.twins.specs.Records.{twinsOf, twinsRecord, renamedClause, renamedExpression}

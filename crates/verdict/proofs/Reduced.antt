@@ -6,10 +6,10 @@ use Prim.Native.Nat.{ℕ, _<_}
 use lib.ListN.{length}
 use lib.Dec.{T}
 use mir.Facts.{and-yes, yes-and}
-use Rattle.model.proofs.Formed.{JobFormed, job-formed}
 use Rattle.base.specs.Lists.{anyOf}
 use Rattle.base.proofs.Lists.{all-has}
 use Rattle.base.proofs.Tests.{T-is, stable}
+use Rattle.model.proofs.Formed.{JobFormed, job-formed}
 use Rattle.words.specs.Compare.{eqZ}
 use Rattle.model.specs.Tables.{Row, Job, value, within, conditionHolds, outputsOf, meets}
 use Rattle.model.specs.WellFormed.{inScope, structured, limited, wellFormed}

@@ -10,9 +10,10 @@ use lib.IntN.{ℤ, pos, negsuc}
 use lib.Signed.{leZ, mag}
 use lib.Dec.{T, leb→le}
 use mir.Facts.{and-yes, yes-and}
-use Rattle.model.proofs.Formed.{near}
+use Rattle.base.proofs.Places.{element}
 use Rattle.base.specs.Lists.{allOf, at}
 use Rattle.base.proofs.Lists.{pairwise-length, all-has}
+use Rattle.model.proofs.Formed.{near}
 use Rattle.words.specs.Bias.{bias, biased}
 use Rattle.words.specs.Word.{signBit}
 use Rattle.words.proofs.Order.{leZ-trans}
@@ -27,8 +28,7 @@ use Rattle.zone.proofs.Laid.{laid-is, laid-in-array}
 use Rattle.solver.specs.Solver.{rowOf}
 use Rattle.solver.specs.Uses.{WordNodes, LeastRoom}
 use Rattle.solver.proofs.Nodes.{map-at}
-use Rattle.search.proofs.Stands.{Stands}
-use Rattle.search.proofs.Held.{element}
+use Rattle.conditions.proofs.Stands.{Stands}
 use Rattle.twins.proofs.Lists.{pairwise-at}
 
 -- ---- values of 32 bits

@@ -9,7 +9,7 @@ use Rattle.model.specs.WellFormed.{wellFormed}
 use Rattle.model.specs.Verdict.{columns, meetsQuery, witness2, kind2, witness3, witness4}
 use Rattle.zone.specs.Zone.{Zone, leastOf}
 use Rattle.solver.specs.Solver.{rowOf}
-use Rattle.search.proofs.Sought.{sought-row}
+use Rattle.conditions.proofs.Sought.{sought-row}
 use Rattle.verdict.specs.Found.{bothBounds, keepsOne, wantsOne, found1, found2, found3, found4}
 use Rattle.verdict.proofs.Rows.{oneRow, otherRow}
 use Rattle.twins.proofs.Twins.{first-within, second-within}

@@ -4,13 +4,15 @@ use mathlib.Core.List.{List}
 use mathlib.Core.Option.{Option, none}
 use Prim.Native.Nat.{ℕ}
 use lib.ListN.{length}
-use Rattle.base.specs.Options.{andThen, isSome}
+use Rattle.base.specs.Options.{andThen, isSome, orElse, firstOf}
 use Rattle.model.specs.Tables.{Bounds, Condition, Job}
 use Rattle.model.specs.Verdict.{columns, tablesDiffer, firstKind}
 use Rattle.zone.specs.Zone.{Zone}
 use Rattle.solver.specs.Solver.{boxOf, imposedAll}
-use Rattle.search.specs.Search.{choicesOf, orElse, firstOf, met, outside}
-use Rattle.search.specs.Pairs.{pairsOf, someApart, ifDiffer}
+use Rattle.conditions.specs.Breaking.{choicesOf}
+use Rattle.conditions.specs.Meeting.{met}
+use Rattle.search.specs.Search.{outside}
+use Rattle.twins.specs.Pairs.{pairsOf, someApart, ifDiffer}
 use Rattle.twins.specs.Twins.{twinOf, twinBounds, renamed}
 
 module _ (j : Job) where

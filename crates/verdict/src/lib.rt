@@ -8,7 +8,7 @@ ghost use Rattle.base.specs.Arrays.{padded};
 ghost use Rattle.model.specs.Tables.{uses};
 ghost use Rattle.model.specs.Verdict.{usesOther, kindOf};
 ghost use Rattle.job.specs.Meaning.{expressionOf, meaningOf};
-ghost use Rattle.search.specs.Records.{laidIf};
+ghost use Rattle.conditions.specs.Records.{laidIf};
 ghost use Rattle.verdict.specs.Found.{oneKind, oneFound, twoKind, twoFound, foundKind, finding, unfixedIn};
 ghost use Rattle.verdict.specs.Verdict.{listingRecord, HandsOut};
 ghost use Rattle.twins.specs.Marks.{marked};
@@ -275,11 +275,11 @@ fn find_one(job: Job, rows: TwinRows, out: &mut [u64; zone::SIZE]) -> u8
     let mut boxed = [0u64; zone::SIZE];
     solver::set_bounds(&mut boxed, &lo[..n], &hi[..n]);
     if tables_differ(extract, query) {
-        if search::met(&boxed, n, query, &mut *out) {
+        if conditions::met(&boxed, n, query, &mut *out) {
             return 1;
         }
     }
-    let choices = search::choices_of(extract);
+    let choices = conditions::choices_of(extract);
     if search::outside(&boxed, n, query, choices, &mut *out) {
         return 2;
     }
@@ -303,7 +303,7 @@ fn find_two(job: Job, rows: TwinRows, out: &mut [u64; zone::SIZE]) -> u8
     let wants = twins::rename(query, twin);
     let mut boxed = [0u64; zone::SIZE];
     solver::set_bounds(&mut boxed, &lo[..m], &hi[..m]);
-    let choices = search::choices_of(wants);
+    let choices = conditions::choices_of(wants);
     if twins::outside_in(&boxed, m, keeps, query, choices, &mut *out) {
         return 3;
     }

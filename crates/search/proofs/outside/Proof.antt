@@ -9,11 +9,12 @@ use lib.ListN.{length, take, drop}
 use Rattle.job.specs.Meaning.{clauseOf}
 use Rattle.job.proofs.Records.{sized-expression}
 use Rattle.zone.specs.Array.{zoneIn}
-use Rattle.search.specs.Search.{byClause, broken, outside}
-use Rattle.search.specs.Records.{choicesIn}
-use Rattle.search.proofs.Sizes.{SizedChoices, sized-choices}
-use Rattle.search.proofs.Found.{ends-none, ends-some}
-use Rattle.search.proofs.Meeting.{meet-asks, room-left, rows-in-array, no-rows, rows-without, rows-with, no-clause-left}
+use Rattle.conditions.specs.Meeting.{byClause}
+use Rattle.search.specs.Search.{broken, outside}
+use Rattle.conditions.specs.Records.{choicesIn}
+use Rattle.conditions.proofs.Sizes.{SizedChoices, sized-choices}
+use Rattle.conditions.proofs.Found.{ends-none, ends-some}
+use Rattle.conditions.proofs.Meeting.{meet-asks, room-left, rows-in-array, no-rows, rows-without, rows-with, no-clause-left}
 use Rattle.search.proofs.Levels.{Level, level-start, level-small, level-ways, level-end, level-asks, all-broken, turn, turn-room, turn-down, turn-barren, turn-shut, turn-same, turn-taken, turn-laid}
 use Rattle.search.proofs.outside.Statement.{statement}
 use Rattle.search.proofs.outside.Tie as tie

@@ -4,14 +4,15 @@ use mathlib.Core.Path.{_≡_, refl, ap, _∙_}
 use mathlib.Core.List.{map}
 use mathlib.Core.Logic.{⊎-elim}
 use lib.ListN.{length, take, drop}
+use Rattle.base.proofs.Options.{none-of}
 use Rattle.base.specs.Lists.{at}
 use Rattle.job.specs.Meaning.{clauseOf}
 use Rattle.job.proofs.Records.{sized-expression}
 use Rattle.zone.specs.Array.{zoneIn}
-use Rattle.search.specs.Search.{byClause}
-use Rattle.search.specs.Pairs.{someApart}
-use Rattle.search.proofs.Found.{none-of, ends-none, ends-some}
-use Rattle.search.proofs.Meeting.{meet-asks, room-left, rows-in-array, no-rows, rows-without, rows-with, no-clause-left}
+use Rattle.conditions.specs.Meeting.{byClause}
+use Rattle.twins.specs.Pairs.{someApart}
+use Rattle.conditions.proofs.Found.{ends-none, ends-some}
+use Rattle.conditions.proofs.Meeting.{meet-asks, room-left, rows-in-array, no-rows, rows-without, rows-with, no-clause-left}
 use Rattle.twins.proofs.Separating.{separated, separated-room}
 use Rattle.twins.proofs.differ_in.Statement.{statement}
 use Rattle.twins.proofs.differ_in.Tie as tie

@@ -8,11 +8,11 @@ use Rattle.base.specs.Lists.{at}
 use Rattle.job.specs.Meaning.{clauseOf}
 use Rattle.job.proofs.Records.{sized-expression}
 use Rattle.zone.specs.Array.{zoneIn}
-use Rattle.search.specs.Search.{byClause}
-use Rattle.search.specs.Pairs.{someApart, pairsOf}
-use Rattle.search.specs.Records.{conditionOf}
-use Rattle.search.proofs.Found.{ends-none}
-use Rattle.search.proofs.Meeting.{meet-asks, room-left, rows-in-array, no-rows, rows-without, rows-with, no-clause-left}
+use Rattle.conditions.specs.Meeting.{byClause}
+use Rattle.twins.specs.Pairs.{someApart, pairsOf}
+use Rattle.conditions.specs.Records.{conditionOf}
+use Rattle.conditions.proofs.Found.{ends-none}
+use Rattle.conditions.proofs.Meeting.{meet-asks, room-left, rows-in-array, no-rows, rows-without, rows-with, no-clause-left}
 use Rattle.twins.proofs.Within.{found-within, none-within}
 use Rattle.twins.proofs.differ_in_both.Statement.{statement}
 use Rattle.twins.proofs.differ_in_both.Tie as tie

@@ -11,8 +11,8 @@ use Rattle.job.specs.Meaning.{clauseOf}
 use Rattle.job.proofs.Records.{sized-expression}
 use Rattle.zone.specs.Zone.{Zone}
 use Rattle.zone.specs.Array.{zoneIn}
-use Rattle.search.specs.Pairs.{ifDiffer}
-use Rattle.search.proofs.Meeting.{meet-asks, room-left, rows-in-array}
+use Rattle.twins.specs.Pairs.{ifDiffer}
+use Rattle.conditions.proofs.Meeting.{meet-asks, room-left, rows-in-array}
 use Rattle.twins.proofs.Marking.{marks-meeting, marked-length, markedFrom, no-marks, more-marks, all-marks, marked-differ}
 use Rattle.twins.proofs.mark_in.Statement.{statement}
 use Rattle.twins.proofs.mark_in.Tie as tie

@@ -12,10 +12,10 @@ use Rattle.job.specs.Meaning.{clauseOf}
 use Rattle.job.proofs.Records.{sized-expression}
 use Rattle.zone.specs.Zone.{Zone}
 use Rattle.zone.specs.Array.{zoneIn}
-use Rattle.search.specs.Search.{byClause}
-use Rattle.search.specs.Pairs.{ifDiffer}
-use Rattle.search.specs.Records.{conditionOf}
-use Rattle.search.proofs.Meeting.{meet-asks, room-left, rows-in-array}
+use Rattle.conditions.specs.Meeting.{byClause}
+use Rattle.twins.specs.Pairs.{ifDiffer}
+use Rattle.conditions.specs.Records.{conditionOf}
+use Rattle.conditions.proofs.Meeting.{meet-asks, room-left, rows-in-array}
 use Rattle.twins.proofs.Marking.{marks-meeting, marked-length, markedFrom, no-marks, more-marks, all-marks, marked-pairs}
 use Rattle.twins.proofs.mark_in_both.Statement.{statement}
 use Rattle.twins.proofs.mark_in_both.Tie as tie

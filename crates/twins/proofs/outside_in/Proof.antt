@@ -8,10 +8,11 @@ use Rattle.base.specs.Lists.{at}
 use Rattle.job.specs.Meaning.{clauseOf}
 use Rattle.job.proofs.Records.{sized-expression}
 use Rattle.zone.specs.Array.{zoneIn}
-use Rattle.search.specs.Search.{outside, byClause}
-use Rattle.search.specs.Records.{choicesIn, conditionOf}
-use Rattle.search.proofs.Found.{ends-none}
-use Rattle.search.proofs.Meeting.{meet-asks, room-left, rows-in-array, no-rows, rows-without, rows-with, no-clause-left}
+use Rattle.search.specs.Search.{outside}
+use Rattle.conditions.specs.Meeting.{byClause}
+use Rattle.conditions.specs.Records.{choicesIn, conditionOf}
+use Rattle.conditions.proofs.Found.{ends-none}
+use Rattle.conditions.proofs.Meeting.{meet-asks, room-left, rows-in-array, no-rows, rows-without, rows-with, no-clause-left}
 use Rattle.twins.proofs.Within.{found-within, none-within}
 use Rattle.twins.proofs.outside_in.Statement.{statement}
 use Rattle.twins.proofs.outside_in.Tie as tie

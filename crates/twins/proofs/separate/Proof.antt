@@ -3,10 +3,10 @@ use native.Mathlib.Omega.{arith}
 use Prim.Native.Nat.{_+_, _-_}
 use mathlib.Core.Path.{_≡_}
 use lib.ListN.{length, drop}
+use Rattle.base.specs.Options.{firstOf}
 use Rattle.base.specs.Lists.{at}
 use Rattle.zone.specs.Array.{zoneIn}
-use Rattle.search.specs.Search.{firstOf}
-use Rattle.search.specs.Pairs.{apart, someApart}
+use Rattle.twins.specs.Pairs.{apart, someApart}
 use Rattle.twins.proofs.Separating.{twin-fits, impose-asks, stays, less-apart, more-apart, none-apart, no-columns}
 use Rattle.twins.proofs.separate.Statement.{statement}
 use Rattle.twins.proofs.separate.Tie as tie

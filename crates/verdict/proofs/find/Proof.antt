@@ -4,7 +4,7 @@ use mathlib.Core.List.{List}
 use Prim.Native.Nat.{ℕ}
 use lib.ListN.{length}
 use Rattle.job.specs.Meaning.{meaningOf}
-use Rattle.search.specs.Records.{laidIf}
+use Rattle.conditions.specs.Records.{laidIf}
 use Rattle.verdict.specs.Found.{twoFound}
 use Rattle.verdict.proofs.Finding.{finds-first, finds-second}
 use borrow.Author.Needs.{needs}

@@ -6,7 +6,7 @@ use Prim.Native.Nat.{ℕ}
 use lib.ListN.{length}
 use Rattle.base.specs.Options.{isSome}
 use Rattle.model.specs.Verdict.{tablesDiffer}
-use Rattle.search.specs.Records.{laidIf}
+use Rattle.conditions.specs.Records.{laidIf}
 use Rattle.verdict.specs.Found.{found1, oneFound}
 use mathlib.Core.Logic.{⊎-elim}
 use native.Mathlib.Omega.{arith}

@@ -7,7 +7,7 @@ use lib.ListN.{length}
 use lib.Seq.{length-take-le}
 use Rattle.job.specs.Meaning.{meaningOf}
 use Rattle.job.proofs.Records.{sized}
-use Rattle.search.specs.Records.{laidIf}
+use Rattle.conditions.specs.Records.{laidIf}
 use Rattle.verdict.specs.Found.{twoFound}
 use Rattle.verdict.proofs.Ready.{lows, highs, columns-most, two-room, two-box, keeps-renames, wants-renames, wants-small, searches-two, differs-two, finds-within, finds-differing, query-outputs, ends-as}
 use Rattle.verdict.proofs.Finding.{shows-3, passes-3, shows-4, shows-none}

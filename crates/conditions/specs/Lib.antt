@@ -1,0 +1,4 @@
+pub mod Breaking
+pub mod Meeting
+pub mod Records
+pub mod Uses
