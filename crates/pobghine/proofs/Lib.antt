@@ -1,4 +1,3 @@
-pub mod Copied
 pub mod Judged
 pub mod Outcomes
 pub mod Counts

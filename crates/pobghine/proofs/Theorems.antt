@@ -23,7 +23,7 @@ use Rattle.layout.proofs.Theorems as layout
 use Rattle.codec.specs.declared.Answer.the-variants.{Whole}
 use Rattle.codec.specs.Answers.{decodedOf}
 use Rattle.verdict.specs.declared.Database.{Database}
-use Rattle.verdict.specs.Databases.{databaseOf}
+use Rattle.verdict.specs.Databases.{noDatabase, databaseOf}
 use Rattle.pobghine.specs.declared.Written.the-variants.{Count}
 use Rattle.pobghine.specs.declared.Decision.{Decision}
 use Rattle.pobghine.specs.declared.Decision.the-variants.{Kind, Refused}
@@ -112,3 +112,7 @@ module _ (s : List ℕ) (r : Job) (x : ReadAs s r) where
   pub decide-evidence : (d f : Database) → PairOf r d f → ¬ (decisionOf r ≡ Kind 0)
       → Evidence (meaningOf r) (databaseOf (meaningOf r) d) (databaseOf (meaningOf r) f)
   decide-evidence d f p n = p .given (read-is s r x .0) .handed .with-others (λ e. n (kind-said s r x 0 .1 e))
+
+  -- with kind 0 both have no row, and are zero throughout
+  pub decide-empty : (d f : Database) → PairOf r d f → decisionOf r ≡ Kind 0 → (d ≡ noDatabase) × (f ≡ noDatabase)
+  decide-empty d f p e = p .given (read-is s r x .0) .with-0 (kind-said s r x 0 .0 e)

@@ -23,8 +23,8 @@ decisionOf r = cond (isRead r) (Kind (kindOf (meaningOf r))) (Refused 12 0)
 unfoldable pub listingIn : Job → List ℕ
 listingIn r = cond (isRead r) (listingRecord r) (replicate 16 0)
 
--- The two databases: the one thing that no definition decides. Of a record that reading gives it is what document 01 asks of them; under 12 they
--- have no row.
+-- The two databases: with kinds 1 to 4 the one thing that no definition decides, and only what document 01 asks of them is said; with kind 0, and
+-- under 12, they have no row and are zero throughout.
 pub record PairOf (r : Job) (d f : Database) : Type 0 where
   pub given : T (isRead r) → HandsOut r d f
   pub refused : isRead r ≡ false → (d ≡ noDatabase) × (f ≡ noDatabase)

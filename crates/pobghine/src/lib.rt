@@ -1,8 +1,6 @@
 // The entry points of the part. None asks anything of its caller.
 ghost use mathlib.Core.Path.{_≡_};
-ghost use mathlib.Core.List.{_++_};
-ghost use Prim.Native.Nat.{_≤_};
-ghost use lib.ListN.{length, drop};
+ghost use lib.ListN.{length};
 ghost use Rattle.layout.specs.Reading.{readOf};
 ghost use Rattle.codec.specs.Answers.{decodedOf};
 ghost use Rattle.pobghine.specs.Records.{isRead, writtenOf, lentAfter};
@@ -34,18 +32,6 @@ fn is_read(job: Job) -> bool
     job::same(job, again)
 }
 
-// Copies bytes to the start of others.
-fn copy(from: &[u8], to: &mut [u8])
-    requires { ⌜ length (now from) ≤ length (now to) ⌝ }
-    ensures { λ _. ⌜ now (to .exit) ≡ now (from .entry) ++ drop (length (now (from .entry))) (now (to .entry)) ⌝ }
-{
-    let mut i = 0;
-    while i < from.len() {
-        to[i] = from[i];
-        i += 1;
-    }
-}
-
 // What writing answers: how many bytes it wrote, or a refusal with its number and position.
 pub enum Written {
     Count(usize),
@@ -65,7 +51,7 @@ pub fn write(job: Job, out: &mut [u8]) -> Written
     if out.len() < n {
         return Written::Refused(17, 0);
     }
-    copy(&bytes[..n], &mut *out);
+    base::put_bytes(&mut *out, 0, &bytes[..n]);
     Written::Count(n)
 }
 
@@ -83,7 +69,7 @@ pub struct Decided {
     pub second: Database,
 }
 
-// Decides whether the extract determines the query. Only the two databases are free.
+// Decides whether the extract determines the query. Only the two databases of kinds 1 to 4 are free.
 pub fn decide(job: Job) -> Decided
     ensures answer { λ r. ⌜ r .answer ≡ decisionOf job ⌝ }
     ensures listing { λ r. ⌜ r .listing ≡ listingIn job ⌝ }

@@ -1,5 +1,4 @@
 pub mod Digits
-pub mod Each
 pub mod Most
 pub mod Rooms
 pub mod Printed

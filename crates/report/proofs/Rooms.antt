@@ -5,8 +5,8 @@ use Prim.Native.Nat.{ℕ, _≤_}
 use native.Mathlib.Omega.{arith}
 use lib.ListN.{length, drop, length-append}
 use Rattle.base.specs.Lists.{flatMap}
-use Rattle.codec.specs.Puts.{Room, Puts}
-use Rattle.codec.proofs.Puts.{room-first, room-next, put-first}
+use Rattle.base.specs.Bytes.{Room, Puts}
+use Rattle.base.proofs.Bytes.{room-first, room-next, put-first}
 use Rattle.report.specs.Text.{ascii, field, refusalText, verdictText}
 
 put-whole : {old new : List ℕ} {r : ℕ} (text : List ℕ) → length text ≤ length old → Puts old new 0 r text

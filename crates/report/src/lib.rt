@@ -4,7 +4,7 @@ ghost use mathlib.Core.List.{[], _∷_, _++_};
 ghost use Prim.Native.Nat.{_≤_};
 ghost use lib.ListN.{length, drop};
 ghost use Rattle.base.specs.Lists.{flatMap};
-ghost use Rattle.codec.specs.Puts.{Room, Puts};
+ghost use Rattle.base.specs.Bytes.{Room, Puts};
 ghost use Rattle.report.specs.Text.{digits, field, refusalText, verdictText};
 ghost use Rattle.report.specs.Printed.{printed, recordText};
 use codec::Answer;
@@ -14,38 +14,16 @@ use pobghine::Decision;
 // Enough bytes for every text: a verdict would take as many if its kind and the listing of 16 columns had three digits each.
 pub const MOST: usize = 81;
 
-// A byte at a place, and the next place.
-fn put(out: &mut [u8], at: usize, b: u8) -> usize
-    requires { ⌜ Room (now out) at (b ∷ []) ⌝ }
-    ensures { λ r. ⌜ Puts (now (out .entry)) (now (out .exit)) at r (b ∷ []) ⌝ }
-{
-    out[at] = b;
-    at + 1
-}
-
-fn put_text(out: &mut [u8], at: usize, text: &[u8]) -> usize
-    requires { ⌜ Room (now out) at (now text) ⌝ }
-    ensures { λ r. ⌜ Puts (now (out .entry)) (now (out .exit)) at r (now (text .entry)) ⌝ }
-{
-    let mut p = at;
-    let mut i = 0;
-    while i < text.len() {
-        p = put(out, p, text[i]);
-        i += 1;
-    }
-    p
-}
-
 // A number in decimal.
 fn put_digits(out: &mut [u8], at: usize, n: usize) -> usize
     requires { ⌜ Room (now out) at (digits n) ⌝ }
     ensures { λ r. ⌜ Puts (now (out .entry)) (now (out .exit)) at r (digits n) ⌝ }
 {
     if n < 10 {
-        return put(out, at, 48 + n as u8);
+        return base::put(out, at, 48 + n as u8);
     }
     let p = put_digits(out, at, n / 10);
-    put(out, p, 48 + (n % 10) as u8)
+    base::put(out, p, 48 + (n % 10) as u8)
 }
 
 // A number behind a word.
@@ -53,7 +31,7 @@ fn put_field(out: &mut [u8], at: usize, word: &[u8], n: usize) -> usize
     requires { ⌜ Room (now out) at (now word ++ digits n) ⌝ }
     ensures { λ r. ⌜ Puts (now (out .entry)) (now (out .exit)) at r (now (word .entry) ++ digits n) ⌝ }
 {
-    let p = put_text(out, at, word);
+    let p = base::put_bytes(out, at, word);
     put_digits(out, p, n)
 }
 
@@ -79,7 +57,7 @@ fn refusal(number: u8, at: usize, out: &mut [u8]) -> usize
 {
     let p = put_field(out, 0, b"refused ", number as usize);
     let q = put_field(out, p, b" at ", at);
-    put(out, q, b'\n')
+    base::put(out, q, b'\n')
 }
 
 // The text of a verdict, and how many bytes it has.
@@ -89,9 +67,9 @@ fn verdict(kind: u8, columns: &[u8], out: &mut [u8]) -> usize
     ensures bytes { λ _. ⌜ now (out .exit) ≡ verdictText kind (now (columns .entry)) ++ drop (length (verdictText kind (now (columns .entry)))) (now (out .entry)) ⌝ }
 {
     let p = put_field(out, 0, b"kind ", kind as usize);
-    let q = put_text(out, p, b"\ncolumns");
+    let q = base::put_bytes(out, p, b"\ncolumns");
     let s = put_columns(out, q, columns);
-    put(out, s, b'\n')
+    base::put(out, s, b'\n')
 }
 
 // The text of what is decided of a record, and how many bytes it has.

@@ -37,12 +37,12 @@ use Rattle.verdict.specs.Listing.{listedBy}
 use Rattle.verdict.specs.Uses.{Given, HasLeast, PairsBy, bothRows}
 use Rattle.verdict.specs.Verdict.{listingRecord, HandsOut}
 use Rattle.verdict.proofs.Limits.{taken, both-near, both-most}
-use Rattle.verdict.proofs.Decided.{kind-1-zone, kind-2-zone, kind-3-zone, kind-4-zone}
+use Rattle.verdict.proofs.Decided.{kind-1-zone, kind-2-zone, kind-3-zone, kind-4-zone, kind-found}
 use Rattle.verdict.proofs.Rooms.{stands-zone, least-room}
 use Rattle.verdict.proofs.Asked.{pairs-one, pairs-two}
 use Rattle.verdict.proofs.Pairing.{least-size}
 use Rattle.verdict.proofs.Listing.{listing-is}
-use Rattle.verdict.proofs.Pairs.{pair-shows, pair-handed}
+use Rattle.verdict.proofs.Pairs.{pair-none, pair-shows, pair-handed}
 use Rattle.verdict.proofs.Ready.{both-is}
 
 -- ---- the zone that was found is one of rows of the job, or of two as one
@@ -139,6 +139,7 @@ module _ (r : Job) (g : Given r) (size : Sized r) (d : List ℕ) (full : length 
       let row = leastIn columns-shown out in
       let shows = pair-shows r (g .laid) (g .formed) (foundKind j) row (λ h. row-shown h .0) in
       rw is (record {
+        with-0 = λ e. pair-none r (rows .twin) (foundKind j) row (sym (kind-found j (g .formed)) ∙ e);
         handed = pair-handed r (g .laid) (g .formed) row row-shown;
         first-tidy = shows .first-tidy;
         second-tidy = shows .second-tidy;

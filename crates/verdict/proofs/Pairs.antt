@@ -28,7 +28,7 @@ use Rattle.twins.proofs.Twins.{below-length, twins-length}
 use Rattle.twins.proofs.Twinned.{record-columns, first-is, second-is}
 use Rattle.twins.proofs.Filled.{filled-length}
 use Rattle.verdict.specs.declared.Pair.{Pair}
-use Rattle.verdict.specs.Databases.{databaseOf, TidyDatabase, rowRecord, reducedRecord, firstIn, secondIn, onePair, twoPair, pairRecord, shownColumns}
+use Rattle.verdict.specs.Databases.{noDatabase, databaseOf, TidyDatabase, rowRecord, reducedRecord, firstIn, secondIn, onePair, twoPair, pairRecord, shownColumns}
 use Rattle.verdict.specs.Found.{foundKind, finding}
 use Rattle.verdict.proofs.Rows.{leastFound, oneRow, otherRow, firstBy, secondBy, firstHanded, secondHanded}
 use Rattle.verdict.proofs.Limits.{taken}
@@ -42,6 +42,12 @@ pub record Shows (r : Job) (p : Pair) (d f : model.Database) : Type 0 where
   pub second : (t : ℕ) → databaseOf (meaningOf r) (p .second) t ≡ f t
   pub first-tidy : TidyDatabase r (p .first)
   pub second-tidy : TidyDatabase r (p .second)
+
+-- with kind 0 there is no row in either
+pub pair-none : (r : Job) (twin : List ℕ) (kind : ℕ) (row : Row) → kind ≡ 0
+    → (pairRecord r twin kind row .first ≡ noDatabase) × (pairRecord r twin kind row .second ≡ noDatabase)
+unfolding pairRecord
+pair-none r twin kind row e = rw e (refl, refl)
 
 -- ---- of a record that is the record of a well-formed job
 module _ (r : Job) (laid : recordOf (meaningOf r) ≡ r) (w : T (wellFormed (meaningOf r))) where

@@ -6,12 +6,12 @@ use borrow.Author.Needs.{needs}
 use borrow.Fn.Kinds.{In}
 use borrow.Fn.PlainCycle.{Measures, is, falls, and}
 use Rattle.report.specs.Text.{digits}
-use Rattle.codec.proofs.Puts.{puts-length, and-then, room-first, room-next}
+use Rattle.base.proofs.Bytes.{puts-length, and-then, room-first, room-next}
 use Rattle.report.proofs.Digits.{digits-one, digits-more}
 use Rattle.report.proofs.put_digits.Reads as put-digits
 use Rattle.report.proofs.put_digits.Kinds as put-digits-kinds
 use Rattle.report.proofs.+put_digits.Lts-put_digits as put-digits-lts
-use Rattle.report.proofs.put.Reads as put-reads
+use Rattle.base.proofs.put.Reads as put-reads
 use Rattle.report.proofs.+put_digits.{statement}
 use Rattle.report.proofs.+put_digits.Tie.{close}
 

@@ -5,7 +5,7 @@ use lib.ListN.{length}
 use lib.Seq.{take-length}
 use borrow.Author.Needs.{needs}
 use Rattle.report.specs.Text.{field}
-use Rattle.codec.proofs.Puts.{puts-length, Turn, turns-begin, turn-room, turn-next, turns-end}
+use Rattle.base.proofs.Bytes.{puts-length, Turn, turns-begin, turn-room, turn-next, turns-end}
 use Rattle.report.proofs.put_columns.Statement.{statement}
 use Rattle.report.proofs.put_columns.Tie as tie
 

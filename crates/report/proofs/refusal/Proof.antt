@@ -4,7 +4,7 @@ use native.Mathlib.Omega.{arith}
 use lib.ListN.{length}
 use borrow.Author.Needs.{needs}
 use Rattle.report.specs.Text.{refusalText}
-use Rattle.codec.proofs.Puts.{and-then}
+use Rattle.base.proofs.Bytes.{and-then}
 use Rattle.report.proofs.Most.{refusal-fits}
 use Rattle.report.proofs.Rooms.{room-number, room-position, room-refused, refusal-put}
 use Rattle.report.proofs.refusal.Statement.{statement}

@@ -3,7 +3,7 @@ use Prim.Native.Nat.{_≤_}
 use lib.ListN.{length}
 use borrow.Author.Needs.{needs}
 use Rattle.report.specs.Text.{verdictText}
-use Rattle.codec.proofs.Puts.{and-then}
+use Rattle.base.proofs.Bytes.{and-then}
 use Rattle.report.proofs.Most.{verdict-fits}
 use Rattle.report.proofs.Rooms.{room-kind, room-word, room-columns, room-judged, verdict-put}
 use Rattle.report.proofs.verdict.Statement.{statement}
@@ -15,8 +15,8 @@ fits c = let s = c .before in verdict-fits (s .args .kind) (s .args .columns .no
 put-field-requires : tie.Need-put-field-requires
 put-field-requires c κs = let s = c .before .before .before in let a = s .before .args in room-kind (a .kind) (a .columns .now) (a .out .now) (fits s)
 
-put-text-requires : tie.Need-put-text-requires
-put-text-requires c κs =
+put-bytes-requires : tie.Need-put-bytes-requires
+put-bytes-requires c κs =
     let c1 = c .before .before .before .before in
     let s = c1 .before .before .before .before in
     let a = s .before .args in
@@ -28,7 +28,7 @@ put-columns-requires c κs =
     let c1 = c2 .before .before .before .before .before in
     let s = c1 .before .before .before .before in
     let a = s .before .args in
-    room-columns (a .kind) (a .columns .now) (a .out .now) (fits s) (and-then (c1 .put-field .ensures) (c2 .put-text .ensures))
+    room-columns (a .kind) (a .columns .now) (a .out .now) (fits s) (and-then (c1 .put-field .ensures) (c2 .put-bytes .ensures))
 
 put-requires : tie.Need-put-requires
 put-requires c κs =
@@ -37,7 +37,7 @@ put-requires c κs =
     let c1 = c2 .before .before .before .before .before in
     let s = c1 .before .before .before .before in
     let a = s .before .args in
-    room-judged (a .kind) (a .columns .now) (a .out .now) (fits s) (and-then (and-then (c1 .put-field .ensures) (c2 .put-text .ensures)) (c3 .put-columns .ensures))
+    room-judged (a .kind) (a .columns .now) (a .out .now) (fits s) (and-then (and-then (c1 .put-field .ensures) (c2 .put-bytes .ensures)) (c3 .put-columns .ensures))
 
 returns : tie.Need-returns
 returns c =
@@ -46,7 +46,7 @@ returns c =
     let c2 = c3 .before .before .before .before in
     let c1 = c2 .before .before .before .before .before in
     let s = c1 .before .before .before .before in
-    let listed = and-then (and-then (c1 .put-field .ensures) (c2 .put-text .ensures)) (c3 .put-columns .ensures) in
+    let listed = and-then (and-then (c1 .put-field .ensures) (c2 .put-bytes .ensures)) (c3 .put-columns .ensures) in
     let a = s .before .args in
     verdict-put (a .kind) (a .columns .now) (a .out .now) (fits s) (and-then listed (c4 .put .ensures))
 
@@ -57,7 +57,7 @@ verdict-spec =
     (λ c. search needs)
     put-field-requires
     (λ c. search needs)
-    put-text-requires
+    put-bytes-requires
     put-columns-requires
     put-requires
     (λ c. search needs)
