@@ -7,12 +7,12 @@ use native.Mathlib.Omega.{arith}
 use native.Mathlib.Numerals.{add-one, unary-clauses}
 use native.Mathlib.Nat.{eq-or-lt-of-le, le-of-suc-le-suc, zero-add}
 use lib.ListN.{length, getD, set, take, drop, replicate, length-append, length-set, length-map, length-replicate, length-drop, drop-of-length-le, List·getD-append}
-use lib.Seq.{set-append-seam, set-append-left, getD-append-add, getD-set-same, getD-set-other, set-getD, ext-getD, take-append-seam, drop-append-seam, getD-drop}
+use lib.Seq.{set-append-seam, set-append-left, getD-append-add, getD-set-same, getD-set-other, set-getD, set-set, set-comm, ext-getD, take-append-seam, drop-append-seam, getD-drop}
 use Rattle.base.specs.Lists.{_∈_, tabulate}
 use Rattle.base.specs.Arrays.{padded, EmptyPast, filled}
 use Rattle.base.proofs.Lists.{map-snoc, map-replicate}
 use Rattle.base.proofs.Tests.{by-less}
-use Rattle.base.proofs.Places.{behind-at, replicate-at, tabulated, tabulate-length, tabulate-at, tabulate-map}
+use Rattle.base.proofs.Places.{behind-at, replicate-at, tabulated, tabulate-length, tabulate-at, tabulate-snoc, tabulate-map}
 
 -- ---- a list in an array
 
@@ -50,6 +50,23 @@ module _ {A : Type 0} (n : ℕ) (d : A) (l : List A) where
       let e : length l + (i - length l) ≡ i = omega arith in
       ap (λ (k : ℕ). getD (padded n d l) k d) (sym e) ∙ getD-append-add l (replicate (n - length l) d) (i - length l) d
       ∙ replicate-at (n - length l) (i - length l) d
+
+-- ---- a list that is given by what stands at each place, in an array
+module _ {A : Type 0} (n : ℕ) (d : A) (w : ℕ) (f : ℕ → A) where
+  pub entries-length : w ≤ n → length (padded n d (tabulate w f)) ≡ n
+  entries-length h = padded-length n d (tabulate w f) (omega (arith, tabulate-length w f))
+
+  pub entries-at : (c : ℕ) (e : A) → c < w → getD (padded n d (tabulate w f)) c e ≡ f c
+  entries-at c e h = getD-padded n d (tabulate w f) c e (omega (arith, tabulate-length w f)) ∙ tabulate-at w f c e h
+
+  pub entries-past : (c : ℕ) → w ≤ c → getD (padded n d (tabulate w f)) c d ≡ d
+  entries-past c h = padded-past n d (tabulate w f) c (omega (arith, tabulate-length w f))
+
+  -- one more
+  pub entries-more : w < n → set (padded n d (tabulate w f)) w (f w) ≡ padded n d (tabulate (w + 1) f)
+  entries-more h =
+      ap (λ (i : ℕ). set (padded n d (tabulate w f)) i (f w)) (sym (tabulate-length w f))
+      ∙ padded-more n d (tabulate w f) (f w) (omega (arith, tabulate-length w f)) ∙ rw (add-one w, ← tabulate-snoc w f)
 
 -- its image
 pub map-padded : {A B : Type 0} (f : A → B) (n : ℕ) (d : A) (l : List A) → map f (padded n d l) ≡ padded n (f d) (map f l)
@@ -113,6 +130,13 @@ module _ {A : Type 0} where
   filled-after f from (suc n) xs k d h =
       getD-set-other (filled f from n xs) (from + n) k (f n) d (omega arith) ∙ filled-after f from n xs k d (omega arith)
 
+  -- a place behind them may be set before or after
+  pub filled-set : (f : ℕ → A) (from n k : ℕ) (x : A) (xs : List A) → from + n ≤ k → filled f from n (set xs k x) ≡ set (filled f from n xs) k x
+  unfolding filled
+  filled-set f from zero k x xs h = refl
+  filled-set f from (suc n) k x xs h =
+      rw (filled-set f from n k x xs (omega arith)) (set-comm (filled f from n xs) k (from + n) x (f n) (λ e. omega arith))
+
   -- the values count, not how they are found
   pub filled-cong : (f g : ℕ → A) (from n : ℕ) (xs : List A) → ((j : ℕ) → j < n → f j ≡ g j) → filled f from n xs ≡ filled g from n xs
   unfolding filled
@@ -125,6 +149,13 @@ module _ {A : Type 0} where
   filled-same f from zero xs d h = refl
   filled-same f from (suc n) xs d h =
       rw (filled-same f from n xs d (λ j l. h j (omega arith)), h n (omega arith)) (set-getD xs (from + n) d)
+
+  -- of two passes over the same places the second counts
+  pub filled-again : (f g : ℕ → A) (from n : ℕ) (xs : List A) → filled f from n (filled g from n xs) ≡ filled f from n xs
+  unfolding filled
+  filled-again f g from zero xs = refl
+  filled-again f g from (suc n) xs =
+      rw (filled-set f from n (from + n) (g n) (filled g from n xs) (omega arith), filled-again f g from n xs, set-set)
 
   -- from the first place on: f's values, and behind them what was there
   pub filled-front : (f : ℕ → A) (n : ℕ) (xs : List A) → n ≤ length xs → filled f 0 n xs ≡ tabulate n f ++ drop n xs

@@ -2,14 +2,15 @@
 use mathlib.Core.Path.{_≡_, refl, sym, ap, _∙_}
 use mathlib.Core.Bool.{Bool, not}
 use mathlib.Core.List.{List, [], _∷_, _++_, map, List·Memᴰ·head, List·Memᴰ·tail, List·Memᴰ·not-nil}
-use Prim.Native.Nat.{ℕ, zero, suc, _+_, _<_}
+use Prim.Native.Nat.{ℕ, zero, suc, _+_, _<_, _≤_}
 use native.Mathlib.Omega.{arith}
-use lib.ListN.{length, getD, replicate}
-use lib.Seq.{ext-getD, getD-append-add}
+use lib.ListN.{length, getD, take, replicate}
+use lib.Seq.{ext-getD, getD-append-add, length-take-le, getD-take}
 use lib.Dec.{T}
 use mir.Facts.{and-yes, yes-and}
-use Rattle.base.specs.Lists.{_∈_, anyOf, allOf, pairwise, tabulate, range}
+use Rattle.base.specs.Lists.{_∈_, anyOf, allOf, filter, pairwise, tabulate, range}
 use Rattle.base.proofs.Tests.{not-and}
+use Rattle.base.proofs.Lists.{filter-append}
 
 module _ {A : Type 0} where
   pub element : (xs : List A) (i : ℕ) (d : A) → i < length xs → getD xs i d ∈ xs
@@ -82,6 +83,10 @@ pub tabulate-map : {A B : Type 0} (f : A → B) (xs : List A) (d : A) → tabula
 tabulate-map f [] d = refl
 tabulate-map f (x ∷ xs) d = ap (λ (m : List _). f x ∷ m) (tabulate-map f xs d)
 
+-- the first elements of a list
+pub tabulate-take : {A : Type 0} (n : ℕ) (xs : List A) (d : A) → n ≤ length xs → tabulate n (λ i. getD xs i d) ≡ take n xs
+tabulate-take n xs d h = sym (tabulated (take n xs) (λ i. getD xs i d) n d (length-take-le n xs h) (λ i l. getD-take n xs i d l))
+
 pub map-tabulate : {A B : Type 0} (g : A → B) (n : ℕ) (f : ℕ → A) → map g (tabulate n f) ≡ tabulate n (λ i. g (f i))
 map-tabulate g zero f = refl
 map-tabulate g (suc n) f = ap (λ (m : List _). g (f 0) ∷ m) (map-tabulate g n (λ k. f (suc k)))
@@ -89,6 +94,9 @@ map-tabulate g (suc n) f = ap (λ (m : List _). g (f 0) ∷ m) (map-tabulate g n
 -- ---- the numbers below n
 pub range-has : (n : ℕ) {c : ℕ} → c ∈ range n → c < n
 range-has n m = let (i, h, e) = tabulate-has n (λ k. k) m in rw (← e) h
+
+pub filter-range : (p : ℕ → Bool) (n : ℕ) → filter p (range (suc n)) ≡ filter p (range n) ++ filter p (n ∷ [])
+filter-range p n = ap (filter p) (tabulate-snoc n (λ k. k)) ∙ filter-append p (range n) (n ∷ [])
 
 -- ---- two lists, place by place
 module _ {A B : Type 0} (p : A → B → Bool) where

@@ -8,6 +8,8 @@ use native.Mathlib.Omega.{arith}
 use lib.ListN.{length, take, drop, length-append, length-take}
 use lib.Dec.{eqb}
 use borrow.Author.Tests.{ne-eqb}
+use Rattle.base.specs.Bytes.{Room, Puts}
+use Rattle.base.proofs.Bytes.{put-first, room-first, room-next}
 use Rattle.base.specs.Lists.{flatMap}
 use Rattle.words.specs.Word.{encoded}
 use Rattle.model.specs.Coded.{opAt, numberOfOp, sideOf}
@@ -20,8 +22,7 @@ use Rattle.job.specs.Meaning.{tableNumbers, meaningOf}
 use Rattle.layout.specs.Commands.{startBytes}
 use Rattle.layout.specs.Writing.{jobBytes}
 use Rattle.layout.proofs.Enough.{side-most}
-use Rattle.codec.specs.Puts.{Room, Puts, columnsIn, columnIn, tableBytes, tablesBytes, eachBytes, usedBytes, outputsBytes, comparisonIn, clauseBytes, clausesBytes, expressionBytes}
-use Rattle.codec.proofs.Puts.{put-first, room-first, room-next}
+use Rattle.codec.specs.Puts.{columnsIn, columnIn, tableBytes, tablesBytes, eachBytes, usedBytes, outputsBytes, comparisonIn, clauseBytes, clausesBytes, expressionBytes}
 use Rattle.job.proofs.Records.{Sixes, SizedExpression, Sized}
 use Rattle.codec.proofs.Meant.{toTables, toExtract, toQuery, recordBytes, meant}
 

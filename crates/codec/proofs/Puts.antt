@@ -11,11 +11,11 @@ use lib.IntN.{ℤ}
 use lib.Signed.{mag}
 use mir.Syntax.{w32}
 use mir.Val.{toZ, ofZ}
+use Rattle.base.specs.Bytes.{Room, Puts}
 use Rattle.base.specs.Lists.{flatMap}
 use Rattle.base.proofs.Lists.{flatMap-append}
 use Rattle.words.specs.Word.{encoded, withValue}
 use Rattle.words.proofs.Stored.{stored}
-use Rattle.codec.specs.Puts.{Room, Puts}
 
 -- ---- two parts
 sets-append : (l : List ℕ) (i : ℕ) (u v : List ℕ) → sets (sets l i u) (i + length u) v ≡ sets l i (u ++ v)

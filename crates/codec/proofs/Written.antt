@@ -5,14 +5,15 @@ use Prim.Native.Nat.{ℕ, zero, suc, _+_, _-_, _≤_, _<_}
 use native.Mathlib.Omega.{arith}
 use lib.ListN.{length, getD}
 use borrow.Author.Tests.{eq-eqb, ne-eqb}
+use Rattle.base.specs.Bytes.{Room, Puts}
+use Rattle.base.proofs.Bytes.{room-first, room-next}
 use Rattle.words.specs.Word.{encoded}
 use Rattle.model.specs.Coded.{opAt, numberOfOp}
 use Rattle.job.specs.declared.Column.{Column}
 use Rattle.job.specs.declared.Comparison.{Comparison}
 use Rattle.job.specs.declared.Expression.{Expression}
 use Rattle.job.specs.Meaning.{tableNumbers}
-use Rattle.codec.specs.Puts.{Room, Puts, columnIn, usedBytes, outputsBytes, comparisonIn, clausesBytes, expressionBytes}
-use Rattle.codec.proofs.Puts.{room-first, room-next}
+use Rattle.codec.specs.Puts.{columnIn, usedBytes, outputsBytes, comparisonIn, clausesBytes, expressionBytes}
 
 -- ---- ops
 pub op-below : (n : ℕ) → n < 4 → n ≡ numberOfOp (opAt n)

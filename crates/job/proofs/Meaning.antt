@@ -17,6 +17,13 @@ use Rattle.job.specs.Record.{noComparison, noClause, noColumn}
 use Rattle.job.specs.Meaning.{tableIn, tableNumbers, columnRecord, columnRecords, comparisonOf, comparisonRecord, clauseOf, clauseRecord, expressionOf, expressionRecord, meaningOf, recordOf}
 
 -- ---- tables
+pub table-number : (t : ℕ) → t < 4 → getD tableNumbers t 0 ≡ t
+table-number zero h = refl
+table-number (suc zero) h = refl
+table-number (suc (suc zero)) h = refl
+table-number (suc (suc (suc zero))) h = refl
+table-number (suc (suc (suc (suc t)))) h = absurd (omega arith)
+
 pub columns-length : (k : ℕ) (ts : List Table) → length (columnRecords k ts) ≡ length (columnsOf ts)
 columns-length k [] = refl
 columns-length k (bs ∷ ts) =

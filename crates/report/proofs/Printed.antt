@@ -1,10 +1,9 @@
 -- What is printed, by way of the record that is read and of what is decided of it. Assumes nothing.
 use mathlib.Core.Path.{_≡_, refl, sym, ap, _∙_}
-use mathlib.Core.List.{List, map}
+use mathlib.Core.List.{List}
 use Prim.Native.Nat.{ℕ, _≤_}
 use native.Mathlib.Omega.{arith}
-use lib.ListN.{length, take, length-map}
-use lib.Seq.{take-append-seam}
+use lib.ListN.{length, take}
 use lib.Dec.{T}
 use Rattle.base.specs.Arrays.{padded}
 use Rattle.base.proofs.Tests.{T-is}
@@ -20,8 +19,6 @@ use Rattle.codec.specs.declared.Answer.{Answer}
 use Rattle.codec.specs.declared.Answer.the-variants as read
 use Rattle.codec.specs.declared.Decoded.{Decoded}
 use Rattle.codec.specs.Answers.{decodedOf}
-use Rattle.twins.specs.Twins.{below}
-use Rattle.twins.proofs.Twins.{below-length}
 use Rattle.verdict.specs.Verdict.{listingRecord}
 use Rattle.pobghine.specs.declared.Decision.{Decision}
 use Rattle.pobghine.specs.declared.Decision.the-variants as decided
@@ -47,10 +44,8 @@ row-width : (j : model.Job) → recordOf j .width ≡ length (columns j)
 unfolding recordOf
 row-width j = refl
 
-listed-first : (f : ℕ → ℕ) (n w : ℕ) → take w (padded n 0 (map f (below w))) ≡ map f (below w)
-listed-first f n w =
-    let all : length (map f (below w)) ≡ w = length-map (below w) f ∙ below-length w in
-    ap (λ (k : ℕ). take k (padded n 0 (map f (below w)))) (sym all) ∙ take-append-seam (map f (below w)) _
+listed-first : (f : ℕ → ℕ) (n w : ℕ) → take w (padded n 0 (tabulate w f)) ≡ tabulate w f
+listed-first f n w = take-padded n 0 (tabulate w f) w (sym (tabulate-length w f))
 
 record-job : (j : model.Job) → T (wellFormed j) → recordText (recordOf j) ≡ jobText j
 unfolding recordText decisionOf listingIn listingRecord

@@ -1,12 +1,11 @@
 -- What the deciding program prints for the bytes that it reads.
-use mathlib.Core.List.{List, map}
+use mathlib.Core.List.{List}
 use Prim.Native.Nat.{ℕ}
 use lib.ListN.{length, take}
 use Rattle.model.specs.Tables as model
 use Rattle.model.specs.Verdict.{columns, kindOf, listingOf}
 use Rattle.job.specs.declared.Job.{Job}
 use Rattle.layout.specs.Reading.{Reading, accepted, refused, readOf}
-use Rattle.twins.specs.Twins.{below}
 use Rattle.pobghine.specs.declared.Decision.{Decision}
 use Rattle.pobghine.specs.declared.Decision.the-variants.{Kind, Refused}
 use Rattle.pobghine.specs.Deciding.{decisionOf, listingIn}
@@ -14,7 +13,7 @@ use Rattle.report.specs.Text.{refusalText, verdictText}
 
 -- of a job: its kind, and the listing of each declared column
 abbrev pub jobText : model.Job → List ℕ
-jobText j = verdictText (kindOf j) (map (listingOf j) (below (length (columns j))))
+jobText j = verdictText (kindOf j) (tabulate (length (columns j)) (listingOf j))
 
 abbrev pub readingText : Reading → List ℕ
 readingText (accepted j) = jobText j

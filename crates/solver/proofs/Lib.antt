@@ -1,7 +1,6 @@
 pub mod Nodes
 pub mod Comparisons
 pub mod Solver
-pub mod Agree
 pub mod Imposing
 pub mod Bounds
 pub mod Progress

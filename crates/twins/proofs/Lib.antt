@@ -1,11 +1,8 @@
 pub mod Pairs
-pub mod Lists
 pub mod Rows
 pub mod Twins
 pub mod Renamed
 pub mod Names
-pub mod Mapped
-pub mod Filled
 pub mod Twinned
 pub mod Within
 pub mod Separating

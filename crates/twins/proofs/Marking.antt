@@ -1,18 +1,15 @@
 -- Marks, one column after the other, and one clause of a condition after the other. Assumes nothing.
 use mathlib.Core.Path.{_≡_, refl, sym, _∙_}
-use mathlib.Core.Bool.{Bool, true, false, cond, _&&_, _||_, or-false}
+use mathlib.Core.Bool.{Bool, true, false, cond, _||_, or-assoc, or-false}
 use mathlib.Core.List.{List}
 use mathlib.Core.Option.{Option, none, some}
 use Prim.Native.Nat.{ℕ, suc, _+_, _<_, _≤_}
 use native.Mathlib.Omega.{arith}
 use native.Mathlib.Numerals.{add-one}
-use lib.ListN.{length, getD, set, drop, length-set}
-use lib.Seq.{getD-set-same, getD-set-other}
-use lib.Dec.{ltb}
-use borrow.Author.Tests.{lt-ltb, le-ltb}
+use native.Mathlib.Nat.{zero-add}
+use lib.ListN.{length, getD, set, drop}
+use Rattle.base.proofs.Arrays.{Pass, filled-cong, filled-length, filled-same, front-turn, pass-end, pass-ahead, filled-again, filled-in}
 use Rattle.base.specs.Options.{isSome}
-use Rattle.base.proofs.Tests.{by-less}
-use Rattle.base.proofs.Places.{tabulate-length, tabulate-at, tabulate-cong, tabulated}
 use Rattle.model.specs.Tables.{Condition}
 use Rattle.job.specs.declared.Expression.{Expression}
 use Rattle.job.specs.Meaning.{clauseOf}
@@ -29,81 +26,49 @@ use Rattle.conditions.proofs.Meeting.{no-rows, rows-without, rows-with, no-clau
 use Rattle.twins.specs.Marks.{marked}
 use Rattle.twins.specs.Uses.{Marks}
 
-module _ (f : ℕ → Bool) (marks : List Bool) where
-  pub marked-length : (w : ℕ) → length (marked w f marks) ≡ 16
-  unfolding marked
-  marked-length w = tabulate-length 16 (λ c. getD marks c false || (ltb c w && f c))
+-- ---- one column after the other
 
-  pub marked-at : (w c : ℕ) → c < 16 → getD (marked w f marks) c false ≡ (getD marks c false || (ltb c w && f c))
-  unfolding marked
-  marked-at w c h = tabulate-at 16 (λ c. getD marks c false || (ltb c w && f c)) c false h
+-- a mark that there is, or what f says
+abbrev pub markOf : (ℕ → Bool) → List Bool → ℕ → Bool
+markOf f marks c = getD marks c false || f c
 
-  pub marked-none : length marks ≡ 16 → marked 0 f marks ≡ marks
-  unfolding marked
-  marked-none e = sym (tabulated marks (λ c. getD marks c false || (ltb c 0 && f c)) 16 false e (λ c h.
-      rw (le-ltb c 0 (omega arith)) (sym (or-false (getD marks c false)))))
+pub marked-length : (f : ℕ → Bool) (marks : List Bool) (w : ℕ) → length (marked w f marks) ≡ length marks
+unfolding marked
+marked-length f marks w = filled-length (markOf f marks) 0 w marks
 
-  pub marked-more : (c : ℕ) → c < 16 → set (marked c f marks) c (getD (marked c f marks) c false || f c) ≡ marked (c + 1) f marks
-  unfolding marked
-  marked-more c h =
-      tabulated (set (marked c f marks) c (getD (marked c f marks) c false || f c)) (λ k. getD marks k false || (ltb k (c + 1) && f k)) 16 false
-      (length-set (marked c f marks) c (getD (marked c f marks) c false || f c) ∙ marked-length c) (λ k l. by-less k c
-      (λ (b : k < c).
-      getD-set-other (marked c f marks) c k (getD (marked c f marks) c false || f c) false (omega arith)
-      ∙ marked-at c k l ∙ rw (lt-ltb k c b, lt-ltb k (c + 1) (omega arith)))
-      (λ b. by-less c k
-      (λ (a : c < k).
-      getD-set-other (marked c f marks) c k (getD (marked c f marks) c false || f c) false (omega arith)
-      ∙ marked-at c k l ∙ rw (le-ltb k c b, le-ltb k (c + 1) (omega arith)))
-      (λ a. let e : k ≡ c = omega arith in rw e (here))))
-    where
-      here : getD (set (marked c f marks) c (getD (marked c f marks) c false || f c)) c false ≡ (getD marks c false || (ltb c (c + 1) && f c))
-      here =
-          getD-set-same (marked c f marks) c (getD (marked c f marks) c false || f c) false (omega (arith, marked-length c))
-          ∙ rw (marked-at c c h, le-ltb c c (omega arith), lt-ltb c (c + 1) (omega arith), or-false (getD marks c false))
+pub marked-at : (f : ℕ → Bool) (marks : List Bool) (w c : ℕ) → w ≤ length marks → c < w → getD (marked w f marks) c false ≡ markOf f marks c
+unfolding marked
+marked-at f marks w c few h = rw zero-add at (filled-in (markOf f marks) 0 w marks c false (omega arith) h)
 
 -- a turn of the loop over the columns, and its end
-pub marked-turn : (f : ℕ → Bool) (marks all : List Bool) (c : ℕ) (v : Bool) → all ≡ marked c f marks → c < 16 → v ≡ f c
-    → set all c (getD all c false || v) ≡ marked (c + 1) f marks
-marked-turn f marks all c v e h is = rw (e, is) (marked-more f marks c h)
+module _ (f : ℕ → Bool) {w c : ℕ} (marks : List Bool) {all : List Bool} (s : Pass (markOf f marks) 0 w c marks all) where
+  pub marked-turn : {v : Bool} → c < w → v ≡ f c → Pass (markOf f marks) 0 w (c + 1) marks (set all c (getD all c false || v))
+  marked-turn h is = front-turn s h (rw (pass-ahead s false {k = c} (omega arith), is))
 
-pub marked-end : (f : ℕ → Bool) (marks all : List Bool) (c w : ℕ) → all ≡ marked c f marks → c ≡ w → all ≡ marked w f marks
-marked-end f marks all c w e is = rw (← is) e
+  pub marked-end : w ≤ c → all ≡ marked w f marks
+  unfolding marked
+  marked-end h = pass-end s h
 
 -- the nodes of a column and of its partner
 pub differ-node : (z : Zone) (c p t : ℕ) → p ≡ t → canDiffer z (c + 1) (p + 1) ≡ canDiffer z (suc c) (suc t)
 differ-node z c p t e = rw (e, add-one c, add-one t)
 
-pub marked-sixteen : (f : ℕ → Bool) (marks all : List Bool) (c : ℕ) → all ≡ marked c f marks → length all ≡ 16
-marked-sixteen f marks all c e = rw e (marked-length f marks c)
-
 -- ---- marks on marks
 
 pub marked-cong : (f g : ℕ → Bool) (marks : List Bool) (w : ℕ) → ((c : ℕ) → c < w → f c ≡ g c) → marked w f marks ≡ marked w g marks
 unfolding marked
-marked-cong f g marks w h =
-    tabulate-cong 16 (λ c. getD marks c false || (ltb c w && f c)) (λ c. getD marks c false || (ltb c w && g c)) (λ c l. by-less c w
-    (λ (b : c < w). rw (h c b)) (λ b. rw (le-ltb c w b)))
+marked-cong f g marks w h = filled-cong (markOf f marks) (markOf g marks) 0 w marks (λ c l. rw (h c l))
 
-pub marked-marked : (f g : ℕ → Bool) (marks : List Bool) (w : ℕ) → marked w f (marked w g marks) ≡ marked w (λ c. g c || f c) marks
+pub marked-marked : (f g : ℕ → Bool) (marks : List Bool) (w : ℕ) → w ≤ length marks → marked w f (marked w g marks) ≡ marked w (λ c. g c || f c) marks
 unfolding marked
-marked-marked f g marks w =
-    tabulate-cong 16 (λ c. getD (marked w g marks) c false || (ltb c w && f c)) (λ c. getD marks c false || (ltb c w && (g c || f c)))
-    (λ c l. rw (marked-at g marks w c l) (both (getD marks c false) (ltb c w) (g c) (f c)))
-  where
-    both : (m b x y : Bool) → ((m || (b && x)) || (b && y)) ≡ (m || (b && (x || y)))
-    both true b x y = refl
-    both false true x y = refl
-    both false false x y = refl
+marked-marked f g marks w few =
+    filled-cong (markOf f (marked w g marks)) (markOf (λ c. g c || f c) marks) 0 w (marked w g marks)
+    (λ c l. rw (marked-at g marks w c few l) (or-assoc (getD marks c false) (g c) (f c)))
+    ∙ filled-again (markOf (λ c. g c || f c) marks) (markOf g marks) 0 w marks
 
-pub marked-nothing : (marks : List Bool) (w : ℕ) → length marks ≡ 16 → marked w (λ c. false) marks ≡ marks
+pub marked-nothing : (marks : List Bool) (w : ℕ) → marked w (λ c. false) marks ≡ marks
 unfolding marked
-marked-nothing marks w e = sym (tabulated marks (λ c. getD marks c false || (ltb c w && false)) 16 false e (λ c h. rest (getD marks c false) (ltb c w)))
-  where
-    rest : (m b : Bool) → m ≡ (m || (b && false))
-    rest true b = refl
-    rest false true = refl
-    rest false false = refl
+marked-nothing marks w = filled-same (markOf (λ c. false) marks) 0 w marks false (λ c h. rw zero-add (or-false (getD marks c false)))
 
 -- ---- clause after clause of a condition
 
@@ -126,10 +91,10 @@ module _ {n : ℕ} {z out : List ℕ} {p : Expression} (u : Meeting n z p out) (
         (λ c. isSome (byClause (zoneIn (n + 1) z) (drop q (conditionOf p)) (f c))) marks w
         (λ c l. rw (no-rows u four h to full told left (f c) refl no-row)) ∙ rest)
 
-    pub more-marks : r ≡ true → {new : List Bool} → new ≡ marked w (λ c. isSome (f c (zoneIn (n + 1) e))) marks
+    pub more-marks : w ≤ length marks → r ≡ true → {new : List Bool} → new ≡ marked w (λ c. isSome (f c (zoneIn (n + 1) e))) marks
         → markedFrom (q + 1) (zoneIn (n + 1) z) (conditionOf p) w f new ≡ all
-    more-marks some-row is = rw is (
-        marked-marked later here marks w
+    more-marks few some-row is = rw is (
+        marked-marked later here marks w few
         ∙ marked-cong (λ c. here c || later c) (λ c. isSome (byClause (zoneIn (n + 1) z) (drop q (conditionOf p)) (f c))) marks w
         (λ c l. go c (f c (zoneIn (n + 1) e)) refl) ∙ rest)
       where
@@ -145,8 +110,8 @@ module _ {n : ℕ} {z out : List ℕ} {p : Expression} (u : Meeting n z p out) (
         go c (some y) k = rw (rows-with u four h to full told left (f c) refl some-row k)
 
   -- no clause is left
-  pub all-marks : length marks ≡ 16 → p .size ≤ q → marks ≡ all
-  all-marks e h = sym (marked-nothing marks w e)
+  pub all-marks : p .size ≤ q → marks ≡ all
+  all-marks h = sym (marked-nothing marks w)
       ∙ marked-cong (λ c. false) (λ c. isSome (byClause (zoneIn (n + 1) z) (drop q (conditionOf p)) (f c))) marks w
       (λ c l. rw (no-clause-left u four (f c) q refl h)) ∙ rest
 

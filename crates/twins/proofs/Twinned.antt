@@ -9,22 +9,21 @@ use lib.ListN.{length, getD, take, length-append, length-map, length-take}
 use lib.Seq.{take-suc, length-take-le, getD-take}
 use lib.IntN.{pos}
 use lib.Dec.{eqb}
-use Rattle.base.specs.Lists.{anyOf, filter, at}
-use Rattle.base.proofs.Lists.{map-snoc}
-use Rattle.base.proofs.Arrays.{take-padded, mapped-more}
+use Rattle.base.proofs.Places.{map-at, tabulate-cong, tabulate-length, filter-range}
+use Rattle.base.specs.Lists.{anyOf, filter, at, range, tabulate}
+use Rattle.base.proofs.Lists.{map-snoc, filter-length}
+use Rattle.base.proofs.Arrays.{take-padded, mapped-more, entries-at, entries-past, entries-more}
 use Rattle.base.proofs.Tests.{by-less}
 use Rattle.model.specs.Tables.{Bounds, Row, value}
 use Rattle.job.specs.declared.Column.{Column}
 use Rattle.solver.specs.Lists.{boundsOf as listed}
 use Rattle.job.specs.Meaning.{boundsOf}
 use Rattle.twins.specs.declared.TwinRows.{TwinRows}
-use Rattle.twins.specs.Twins.{below, isStored, hidden, rank, twinOf, twinBounds}
+use Rattle.twins.specs.Twins.{isStored, hidden, rank, twinOf, twinBounds}
 use Rattle.twins.proofs.Rows.{firstRow, secondRow}
 use Rattle.twins.specs.Records.{twinsOf, columnMore, twinMore, taken, twinsRecord}
 use Rattle.twins.specs.Uses.{TwinsRoom, Names, TwinsStand}
-use Rattle.twins.proofs.Lists.{filter-append, filter-length, map-at, map-cong}
-use Rattle.twins.proofs.Twins.{below-length, below-has, twin-stored, twin-hidden, twin-declared, twins-most}
-use Rattle.twins.proofs.Filled.{filled-more, filled-at, filled-past}
+use Rattle.twins.proofs.Twins.{twin-stored, twin-hidden, twin-declared, twins-most}
 
 column-more : (bs : List Bounds) (ts : List ℕ) (k : Column) → length bs < 32
     → columnMore (twinsOf bs ts) k ≡ twinsOf (bs ++ boundsOf k ∷ []) ts
@@ -37,9 +36,9 @@ column-more bs ts k h =
     )
 
 twin-more : (bs : List Bounds) (f : ℕ → ℕ) (c : ℕ) → c < 16
-    → twinMore (twinsOf bs (map f (below c))) c (f c) ≡ twinsOf bs (map f (below (c + 1)))
+    → twinMore (twinsOf bs (tabulate c f)) c (f c) ≡ twinsOf bs (tabulate (c + 1) f)
 unfolding twinsOf
-twin-more bs f c h = rw (filled-more 16 0 f c h refl refl)
+twin-more bs f c h = rw (entries-more 16 0 c f h)
 
 -- ---- the first row
 module _ (xs : List Column) (c : ℕ) (few : length xs ≤ 16) {t : TwinRows} (is : t ≡ twinsOf (map boundsOf (take c xs)) []) where
@@ -69,11 +68,11 @@ module _ (bs : List Bounds) (stored : List ℕ) where
   bound c = getD bs c (record { lo = pos 0; hi = pos 0 })
 
   abbrev own : ℕ → List Bounds
-  own c = map bound (filter isHidden (below c))
+  own c = map bound (filter isHidden (range c))
 
   -- its columns below c taken
   unfoldable pub till : ℕ → TwinRows
-  till c = twinsOf (bs ++ own c) (map (twinOf n stored) (below c))
+  till c = twinsOf (bs ++ own c) (tabulate c (twinOf n stored))
 
   till-none : till 0 ≡ twinsOf bs []
   unfolding till
@@ -85,11 +84,11 @@ module _ (bs : List Bounds) (stored : List ℕ) where
 
   own-length : (c : ℕ) → length (bs ++ own c) ≡ n + rank n stored c
   unfolding rank
-  own-length c = length-append bs (own c) ∙ ap (λ (m : ℕ). n + m) (length-map (filter isHidden (below c)) bound)
+  own-length c = length-append bs (own c) ∙ ap (λ (m : ℕ). n + m) (length-map (filter isHidden (range c)) bound)
 
   rank-short : (c : ℕ) → rank n stored c ≤ c
   unfolding rank
-  rank-short c = omega (arith, filter-length isHidden (below c), below-length c)
+  rank-short c = omega (arith, filter-length isHidden (range c), tabulate-length c (λ k. k))
 
   own-short : n ≤ 16 → (c : ℕ) → c < n → length (bs ++ own c) < 32
   own-short few c h = omega (arith, own-length c, rank-short c)
@@ -103,23 +102,23 @@ module _ (bs : List Bounds) (stored : List ℕ) where
   till-columns = own-length
 
   module _ (few : n ≤ 16) (c : ℕ) (k : Column) (here : boundsOf k ≡ bound c) (h : c < n) where
-    place : twinMore (till c) c (twinOf n stored c) ≡ twinsOf (bs ++ own c) (map (twinOf n stored) (below (c + 1)))
+    place : twinMore (till c) c (twinOf n stored c) ≡ twinsOf (bs ++ own c) (tabulate (c + 1) (twinOf n stored))
     unfolding till
     place = twin-more (bs ++ own c) (twinOf n stored) c (omega arith)
 
     stored-more : isStored n stored c ≡ true → twinMore (till c) c c ≡ till (c + 1)
     unfolding till
     stored-more i =
-        let same : own (c + 1) ≡ own c = rw (add-one c, filter-append isHidden (below c) (c ∷ []), i, append-nil (filter isHidden (below c))) in
+        let same : own (c + 1) ≡ own c = rw (add-one c, filter-range isHidden c, i, append-nil (filter isHidden (range c))) in
         ap (twinMore (till c) c) (sym (twin-stored n stored c (rw i tt))) ∙ place
-        ∙ ap (λ (xs : List Bounds). twinsOf (bs ++ xs) (map (twinOf n stored) (below (c + 1)))) (sym same)
+        ∙ ap (λ (xs : List Bounds). twinsOf (bs ++ xs) (tabulate (c + 1) (twinOf n stored))) (sym same)
 
     hidden-more : isStored n stored c ≡ false → columnMore (twinMore (till c) c (till c .columns)) k ≡ till (c + 1)
     unfolding till
     hidden-more i =
         let more : own (c + 1) ≡ own c ++ boundsOf k ∷ [] =
-        rw (add-one c, filter-append isHidden (below c) (c ∷ []), i, map-snoc bound (filter isHidden (below c)) c, here) in
-        let names = map (twinOf n stored) (below (c + 1)) in
+        rw (add-one c, filter-range isHidden c, i, map-snoc bound (filter isHidden (range c)) c, here) in
+        let names = tabulate (c + 1) (twinOf n stored) in
         ap (λ (v : ℕ). columnMore (twinMore (till c) c v) k) (till-columns c ∙ sym (twin-hidden n stored c (rw i tt)))
         ∙ ap (λ (t : TwinRows). columnMore t k) place
         ∙ column-more (bs ++ own c) names k (own-short few c h)
@@ -193,11 +192,11 @@ module _ (bs : List Bounds) (stored : List ℕ) where
 
   pub twin-at : (c : ℕ) → c < length bs → at names c ≡ twinOf (length bs) stored c
   unfolding twinsRecord twinsOf
-  twin-at c h = filled-at 16 0 (twinOf (length bs) stored) (length bs) c 0 h
+  twin-at c h = entries-at 16 0 (length bs) (twinOf (length bs) stored) c 0 h
 
   twin-past : (c : ℕ) → length bs ≤ c → at names c ≡ 0
   unfolding twinsRecord twinsOf
-  twin-past c h = filled-past 16 0 (twinOf (length bs) stored) (length bs) c h
+  twin-past c h = entries-past 16 0 (length bs) (twinOf (length bs) stored) c h
 
   module _ (few : length bs ≤ 16) where
     twin-most : (c : ℕ) → c < length bs → at names c < 32
@@ -214,8 +213,7 @@ module _ (bs : List Bounds) (stored : List ℕ) where
   unfolding firstRow
   first-is row = refl
 
-  pub second-is : (row : Row) → map (λ c. value row (at names c)) (below (length bs)) ≡ secondRow (length bs) stored row
+  pub second-is : (row : Row) → tabulate (length bs) (λ c. value row (at names c)) ≡ secondRow (length bs) stored row
   unfolding secondRow
   second-is row =
-      map-cong (λ c. value row (at names c)) (λ c. value row (twinOf (length bs) stored c)) (below (length bs)) (λ c m.
-      ap (value row) (twin-at c (below-has (length bs) m)))
+      tabulate-cong (length bs) (λ c. value row (at names c)) (λ c. value row (twinOf (length bs) stored c)) (λ c h. ap (value row) (twin-at c h))

@@ -1,58 +1,26 @@
 -- Two rows that agree in the stored columns are one row within the bounds of both. Assumes nothing.
-use mathlib.Core.Path.{_≡_, refl, ap, sym, _∙_}
+use mathlib.Core.Path.{_≡_, ap, sym, subst⁻¹, _∙_}
 use mathlib.Core.Logic.{_⊎_, inl, inr}
 use mathlib.Core.Bool.{Bool, true, false, not, _&&_}
-use mathlib.Core.List.{List, [], _∷_, _++_, map, List·Memᴰ·not-nil, List·Memᴰ·eq-of-singleton, List·Memᴰ·append-cases, Memᴰ·of-map}
+use mathlib.Core.List.{List, [], _∷_, _++_, map, List·Memᴰ·append-cases, Memᴰ·of-map}
 use Prim.Native.Nat.{ℕ, zero, suc, _+_, _*_, _<_, _≤_}
 use native.Mathlib.Omega.{arith}
-use borrow.Author.Tests.{ltb-true, ltb-false}
 use lib.ListN.{length, getD, length-append, length-take, length-map, List·getD-append, List·getD-eq-default}
 use lib.Seq.{getD-append-seam, getD-take, take-at, ext-getD}
 use lib.IntN.{pos}
-use lib.Dec.{T, ltb, eqb, eqb→eq, eqb-refl}
+use lib.Dec.{T, eqb, eqb→eq, eqb-refl}
 use mir.Facts.{and-yes, yes-and}
-use Rattle.base.proofs.Places.{element}
-use Rattle.base.specs.Lists.{_∈_, allOf, filter}
-use Rattle.base.proofs.Lists.{any-has, has-any, all-has, has-all, filter-has, pairwise-length, pairwise-append, pairwise-split}
-use Rattle.base.proofs.Tests.{same-test, T-is, not-is}
+use Rattle.base.proofs.Places.{element, behind-at, map-at, pairwise-at, at-pairwise, pairwise-maps, maps-pairwise, range-has, tabulate-at, tabulate-length, filter-range}
+use Rattle.base.specs.Lists.{_∈_, allOf, filter, range}
+use Rattle.base.proofs.Lists.{any-has, has-any, all-has, has-all, filter-has, pairwise-length, pairwise-append, pairwise-split, filter-length, map-cong}
+use Rattle.base.proofs.Tests.{same-test, T-is, not-is, by-less}
 use Rattle.words.specs.Compare.{eqZ}
 use Rattle.words.proofs.Order.{eqZ-is}
 use Rattle.model.specs.Tables.{Bounds, Row, value, inside, within}
 use Rattle.model.specs.Rows.{someRow, twoRows, sameRow}
 use Rattle.model.proofs.Rows.{some-has, has-some, two-has, has-two, is-same-row}
-use Rattle.twins.specs.Twins.{below, isStored, hidden, rank, twinOf, twinBounds}
+use Rattle.twins.specs.Twins.{isStored, hidden, rank, twinOf, twinBounds}
 use Rattle.twins.proofs.Rows.{firstRow, secondRow}
-use Rattle.twins.proofs.Lists.{filter-append, filter-length, behind-at, map-at, map-cong, pairwise-at, at-pairwise, pairwise-maps, maps-pairwise}
-
--- ---- the numbers below n
-below-or-not : (c n : ℕ) → (c < n) ⊎ (n ≤ c)
-below-or-not c n = go (ltb c n) refl
-  where
-    go : (b : Bool) → ltb c n ≡ b → (c < n) ⊎ (n ≤ c)
-    go true e = inl (ltb-true c n e)
-    go false e = inr (ltb-false c n e)
-
-pub below-length : (n : ℕ) → length (below n) ≡ n
-below-length zero = refl
-below-length (suc n) = length-append (below n) (n ∷ []) ∙ rw (below-length n) (omega arith)
-
-pub below-at : (n c d : ℕ) → c < n → getD (below n) c d ≡ c
-below-at zero c d h = absurd (omega arith)
-below-at (suc n) c d h = go (below-or-not c n) (below-at n c d)
-  where
-    go : (c < n) ⊎ (n ≤ c) → (c < n → getD (below n) c d ≡ c) → getD (below n ++ n ∷ []) c d ≡ c
-    go (inl l) front = List·getD-append (below n) (n ∷ []) d c (rw (below-length n) l) ∙ front l
-    go (inr l) front =
-        let e : c ≡ length (below n) = omega (arith, below-length n) in
-        rw e (getD-append-seam (below n) n [] d ∙ sym (below-length n))
-
-pub below-has : (n : ℕ) {c : ℕ} → c ∈ below n → c < n
-below-has zero m = absurd (List·Memᴰ·not-nil m)
-below-has (suc n) {c} m = go (List·Memᴰ·append-cases (below n) m) (below-has n)
-  where
-    go : (c ∈ below n) ⊎ (c ∈ (n ∷ [])) → (c ∈ below n → c < n) → c < suc n
-    go (inl i) front = let l = front i in omega arith
-    go (inr i) front = let e = List·Memᴰ·eq-of-singleton i in omega arith
 
 -- the bounds of a column that isn't declared
 abbrev undeclared : Bounds
@@ -74,17 +42,18 @@ module _ (n : ℕ) (stored : List ℕ) where
   isHidden c = not (isStored n stored c)
 
   -- a hidden column has its rank for its place among the hidden
-  ranked : (m c : ℕ) → c < m → T (isHidden c) → Stands (filter isHidden (below m)) (rank n stored c) c
+  ranked : (m c : ℕ) → c < m → T (isHidden c) → Stands (filter isHidden (range m)) (rank n stored c) c
   unfolding rank
   ranked zero c h t = absurd (omega arith)
-  ranked (suc m) c h t = rw (filter-append isHidden (below m) (m ∷ [])) (go (below-or-not c m) (λ l. ranked m c l t))
+  ranked (suc m) c h t =
+      subst⁻¹ (λ (l : List ℕ). Stands l (rank n stored c) c) (filter-range isHidden m)
+      (by-less c m (λ l. stands-before front (filter isHidden (m ∷ [])) (ranked m c l t)) last)
     where
       front : List ℕ
-      front = filter isHidden (below m)
+      front = filter isHidden (range m)
 
-      go : (c < m) ⊎ (m ≤ c) → (c < m → Stands front (rank n stored c) c) → Stands (front ++ filter isHidden (m ∷ [])) (rank n stored c) c
-      go (inl l) before = stands-before front (filter isHidden (m ∷ [])) (before l)
-      go (inr l) before = let e : m ≡ c = omega arith in rw (e, T-is (isHidden c) t) (stands-last (filter isHidden (below c)) c)
+      last : m ≤ c → Stands (front ++ filter isHidden (m ∷ [])) (rank n stored c) c
+      last l = let e : m ≡ c = omega arith in rw (e, T-is (isHidden c) t) (stands-last (filter isHidden (range c)) c)
 
   hidden-rank : (c : ℕ) → c < n → T (isHidden c) → Stands (hidden n stored) (rank n stored c) c
   unfolding hidden
@@ -92,11 +61,11 @@ module _ (n : ℕ) (stored : List ℕ) where
 
   hidden-below : {c : ℕ} → c ∈ hidden n stored → c < n
   unfolding hidden
-  hidden-below m = below-has n ((filter-has isHidden (below n) m) .0)
+  hidden-below m = range-has n ((filter-has isHidden (range n) m) .0)
 
   pub hidden-length : length (hidden n stored) ≤ n
   unfolding hidden
-  hidden-length = omega (arith, filter-length isHidden (below n), below-length n)
+  hidden-length = omega (arith, filter-length isHidden (range n), tabulate-length n (λ k. k))
 
   -- ---- where the second row's values stand
   pub twin-stored : (c : ℕ) → T (isStored n stored c) → twinOf n stored c ≡ c
@@ -122,12 +91,11 @@ module _ (n : ℕ) (stored : List ℕ) where
 
   pub second-value : (t : Row) (c : ℕ) → c < n → value (secondRow n stored t) c ≡ value t (twinOf n stored c)
   unfolding secondRow
-  second-value t c h =
-      map-at (λ d. value t (twinOf n stored d)) (below n) c zero (pos 0) (rw (below-length n) h) ∙ ap (λ d. value t (twinOf n stored d)) (below-at n c zero h)
+  second-value t c h = tabulate-at n (λ c. value t (twinOf n stored c)) c (pos 0) h
 
   pub second-length : (t : Row) → length (secondRow n stored t) ≡ n
   unfolding secondRow
-  second-length t = length-map (below n) (λ c. value t (twinOf n stored c)) ∙ below-length n
+  second-length t = tabulate-length n (λ c. value t (twinOf n stored c))
 
   first-short : (t : Row) → length (firstRow n stored t) ≤ n
   unfolding firstRow
@@ -135,13 +103,11 @@ module _ (n : ℕ) (stored : List ℕ) where
 
   -- they agree in the stored columns
   pub twins-agree : (t : Row) (c : ℕ) → T (isStored n stored c) → value (firstRow n stored t) c ≡ value (secondRow n stored t) c
-  twins-agree t c s = go (below-or-not c n)
-    where
-      go : (c < n) ⊎ (n ≤ c) → value (firstRow n stored t) c ≡ value (secondRow n stored t) c
-      go (inl l) = first-value t c l ∙ ap (value t) (sym (twin-stored c s)) ∙ sym (second-value t c l)
-      go (inr l) =
-          List·getD-eq-default (firstRow n stored t) (pos 0) (omega (arith, first-short t))
-          ∙ sym (List·getD-eq-default (secondRow n stored t) (pos 0) (omega (arith, second-length t)))
+  twins-agree t c s =
+      by-less c n
+      (λ l. first-value t c l ∙ ap (value t) (sym (twin-stored c s)) ∙ sym (second-value t c l))
+      (λ l. List·getD-eq-default (firstRow n stored t) (pos 0) (omega (arith, first-short t))
+      ∙ sym (List·getD-eq-default (secondRow n stored t) (pos 0) (omega (arith, second-length t))))
 
   -- so those of the one are those of the other
   pub twins-same : (t : Row) → T (sameRow (map (value (firstRow n stored t)) stored) (map (value (secondRow n stored t)) stored))

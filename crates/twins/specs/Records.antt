@@ -5,7 +5,7 @@ use Prim.Native.Nat.{ℕ, _+_, _-_}
 use lib.ListN.{length, set}
 use lib.IntN.{pos}
 use lib.Dec.{eqb}
-use Rattle.base.specs.Lists.{at}
+use Rattle.base.specs.Lists.{tabulate, at}
 use Rattle.base.specs.Arrays.{padded}
 use Rattle.model.specs.Tables.{Bounds}
 use Rattle.job.specs.declared.Column.{Column}
@@ -13,7 +13,7 @@ use Rattle.job.specs.declared.Comparison.{Comparison}
 use Rattle.job.specs.declared.Clause.{Clause}
 use Rattle.job.specs.declared.Expression.{Expression}
 use Rattle.twins.specs.declared.TwinRows.{TwinRows}
-use Rattle.twins.specs.Twins.{below, twinOf, twinBounds}
+use Rattle.twins.specs.Twins.{twinOf, twinBounds}
 
 -- ---- Two rows as one
 
@@ -40,7 +40,7 @@ taken t c k stored = cond stored (twinMore t c c) (columnMore (twinMore t c (t .
 
 -- the two rows within some bounds that agree in the stored columns
 unfoldable pub twinsRecord : List Bounds → List ℕ → TwinRows
-twinsRecord bs stored = twinsOf (twinBounds (length bs) stored bs) (map (twinOf (length bs) stored) (below (length bs)))
+twinsRecord bs stored = twinsOf (twinBounds (length bs) stored bs) (tabulate (length bs) (twinOf (length bs) stored))
 
 -- ---- Conditions with columns named anew: c by what stands at place c
 

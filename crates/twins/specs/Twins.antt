@@ -1,17 +1,12 @@
 -- Two rows that agree in the stored columns, as one: the first row, and behind it the second row's values in the columns that aren't stored.
 use mathlib.Core.Bool.{Bool, not, cond}
-use mathlib.Core.List.{List, [], _∷_, _++_, map}
-use Prim.Native.Nat.{ℕ, zero, suc, _+_}
+use mathlib.Core.List.{List, _++_, map}
+use Prim.Native.Nat.{ℕ, _+_}
 use lib.ListN.{length, getD}
 use lib.IntN.{pos}
 use lib.Dec.{eqb}
-use Rattle.base.specs.Lists.{anyOf, filter}
+use Rattle.base.specs.Lists.{range, anyOf, filter}
 use Rattle.model.specs.Tables.{Bounds, Against, column, number, Comparison, Condition}
-
--- the numbers below n, in order
-abbrev pub below : ℕ → List ℕ
-below zero = []
-below (suc n) = below n ++ n ∷ []
 
 module _ (n : ℕ) (stored : List ℕ) where
   abbrev pub isStored : ℕ → Bool
@@ -19,11 +14,11 @@ module _ (n : ℕ) (stored : List ℕ) where
 
   -- the columns that aren't stored: the second row has values of its own there
   unfoldable pub hidden : List ℕ
-  hidden = filter (λ c. not (isStored c)) (below n)
+  hidden = filter (λ c. not (isStored c)) (range n)
 
   -- how many of the columns below c are hidden
   unfoldable pub rank : ℕ → ℕ
-  rank c = length (filter (λ d. not (isStored d)) (below c))
+  rank c = length (filter (λ d. not (isStored d)) (range c))
 
   -- where the second row's value in column c stands
   unfoldable pub twinOf : ℕ → ℕ

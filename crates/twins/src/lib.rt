@@ -4,7 +4,7 @@ ghost use mathlib.Core.List.{[], map};
 ghost use Prim.Native.Nat.{suc, _+_, _≤_, _<_};
 ghost use lib.ListN.{take};
 ghost use lib.IntN.{pos};
-ghost use Rattle.base.specs.Lists.{at};
+ghost use Rattle.base.specs.Lists.{at, tabulate};
 ghost use Rattle.base.specs.Options.{isSome};
 ghost use Rattle.base.specs.Arrays.{padded};
 ghost use Rattle.model.specs.Tables.{value};
@@ -15,7 +15,6 @@ ghost use Rattle.search.specs.Search.{outside};
 ghost use Rattle.conditions.specs.Meeting.{byClause};
 ghost use Rattle.twins.specs.Pairs.{someApart, ifDiffer, pairsOf};
 ghost use Rattle.conditions.specs.Records.{choicesIn, conditionOf, laidIf};
-ghost use Rattle.twins.specs.Twins.{below};
 ghost use Rattle.twins.specs.Records.{twinsOf, columnMore, taken, twinsRecord, renamedOne, renamedClause, renamedExpression};
 ghost use Rattle.twins.specs.Marks.{marked};
 ghost use Rattle.twins.specs.Uses.{FewColumns, TwinsRoom, RenamesOne, RenamesClause, Renames, TwinsStand, Twinned, Separates, Differs, DiffersTwice, Marks, MarksTwice, SearchesIn};
@@ -29,23 +28,12 @@ use job::Job;
 // At most so many columns in two rows as one.
 pub const COLUMNS: usize = 32;
 
-// The ops by which two values differ.
-const LESS: u8 = 0;
-
-const MORE: u8 = 4;
-
 // Two rows that agree in the stored columns, as one row: how many columns it has, where the second row's value of each column stands, and its bounds.
 pub struct TwinRows {
     pub columns: usize,
     pub twin: [u8; Job::COLUMNS],
     pub lo: [i32; COLUMNS],
     pub hi: [i32; COLUMNS],
-}
-
-fn wide(b: u8) -> usize
-    ensures { λ r. ⌜ r ≡ b ⌝ }
-{
-    b as usize
 }
 
 // ---- Two rows as one
@@ -143,7 +131,7 @@ pub fn first_row(row: [i32; COLUMNS], n: usize) -> [i32; Job::COLUMNS]
 // The second row of two as one.
 pub fn second_row(row: [i32; COLUMNS], twin: [u8; Job::COLUMNS], n: usize) -> [i32; Job::COLUMNS]
     requires { ⌜ TwinsStand twin n ⌝ }
-    ensures { λ r. ⌜ r ≡ padded 16 (pos 0) (map (λ c. value row (at twin c)) (below n)) ⌝ }
+    ensures { λ r. ⌜ r ≡ padded 16 (pos 0) (tabulate n (λ c. value row (at twin c))) ⌝ }
 {
     let mut second = [0i32; Job::COLUMNS];
     let mut c = 0;
@@ -219,11 +207,11 @@ fn separate(d: &mut [u64; zone::SIZE], columns: usize, cs: &[u8], twin: [u8; Job
     let mut i = 0;
     while i < cs.len() {
         let c = cs[i];
-        let other = twins[wide(c)] + 1;
-        if solver::impose_one(&mut *d, columns, LESS, c, other, 0) {
+        let other = twins[base::wide(c)] + 1;
+        if solver::impose_one(&mut *d, columns, solver::LESS, c, other, 0) {
             return true;
         }
-        if solver::impose_one(&mut *d, columns, MORE, c, other, 0) {
+        if solver::impose_one(&mut *d, columns, solver::MORE, c, other, 0) {
             return true;
         }
         i += 1;
@@ -303,7 +291,7 @@ fn mark(
     let twins = twin;
     let mut c = 0;
     while c < width {
-        let differ = zone::can_differ(d, columns + 1, c + 1, wide(twins[c]) + 1);
+        let differ = zone::can_differ(d, columns + 1, c + 1, base::wide(twins[c]) + 1);
         marks[c] = marks[c] | differ;
         c += 1;
     }

@@ -8,7 +8,8 @@ use lib.ListN.{length, getD, take, drop, length-append, length-take, length-drop
 use lib.Seq.{getD-take, getD-drop, ext-getD}
 use lib.IntN.{ℤ, pos}
 use borrow.Author.Tests.{lt-ltb, le-ltb}
-use Rattle.base.proofs.Arrays.{padded-past}
+use Rattle.base.proofs.Places.{map-at}
+use Rattle.base.proofs.Arrays.{padded-past, entries-at, entries-length, entries-past}
 use Rattle.base.proofs.Tests.{by-less}
 use Rattle.model.proofs.Formed.{Formed}
 use Rattle.model.specs.Tables as model
@@ -18,12 +19,11 @@ use Rattle.model.specs.Pair.{rowDatabase, reducedDatabase}
 use Rattle.model.proofs.Scope.{used-declared}
 use Rattle.job.specs.declared.Job.{Job}
 use Rattle.job.specs.Meaning.{tableNumbers, meaningOf, recordOf}
+use Rattle.job.proofs.Meaning.{table-number}
 use Rattle.job.proofs.Columns.{tables-are, width-is, table-is}
 use Rattle.job.proofs.Counts.{tables-fit}
 use Rattle.verdict.specs.declared.Database.{Database}
 use Rattle.verdict.specs.Databases.{noDatabase, databaseOf, tableAt, TidyDatabase, valueIn, databaseRecord, presentIn, rowRecord, reducedRecord}
-use Rattle.twins.proofs.Lists.{map-at}
-use Rattle.twins.proofs.Filled.{filled-at, filled-past, filled-length}
 
 -- ---- rows that agree in the columns of a table have the same part there
 same-part : (ts : List Table) (t : ℕ) (xs ys : Row) → length xs ≡ length ys
@@ -55,15 +55,15 @@ module _ (r : Job) (laid : recordOf (meaningOf r) ≡ r) (few : r .width ≤ 16)
 
     value-at : (c : ℕ) → c < r .width → value (d .values) c ≡ valueIn (r .columns) ps row c
     unfolding databaseRecord
-    value-at c h = filled-at 16 (pos 0) (valueIn (r .columns) ps row) (r .width) c (pos 0) h
+    value-at c h = entries-at 16 (pos 0) (r .width) (valueIn (r .columns) ps row) c (pos 0) h
 
     value-past : (c : ℕ) → r .width ≤ c → value (d .values) c ≡ pos 0
     unfolding databaseRecord
-    value-past c h = filled-past 16 (pos 0) (valueIn (r .columns) ps row) (r .width) c h
+    value-past c h = entries-past 16 (pos 0) (r .width) (valueIn (r .columns) ps row) c h
 
     values-length : length (d .values) ≡ 16
     unfolding databaseRecord
-    values-length = filled-length 16 (pos 0) (valueIn (r .columns) ps row) (r .width) few
+    values-length = entries-length 16 (pos 0) (r .width) (valueIn (r .columns) ps row) few
 
     part-kept : length row ≡ 16 → (t : ℕ) → getD ps t false ≡ true → partOf (j .tables) (take n (d .values)) t ≡ partOf (j .tables) (take n row) t
     part-kept full t p =
@@ -91,17 +91,10 @@ module _ (r : Job) (laid : recordOf (meaningOf r) ≡ r) (few : r .width ≤ 16)
     }
 
 -- ---- the tables that both expressions use
-number-at : (t : ℕ) → t < 4 → getD tableNumbers t 0 ≡ t
-number-at zero h = refl
-number-at (suc zero) h = refl
-number-at (suc (suc zero)) h = refl
-number-at (suc (suc (suc zero))) h = refl
-number-at (suc (suc (suc (suc t)))) h = absurd (omega arith)
-
 module _ (e f : model.Expression) where
   pub present-at : (t : ℕ) → t < 4 → getD (presentIn e f) t false ≡ (uses e t && uses f t)
   unfolding presentIn
-  present-at t h = map-at (λ t. uses e t && uses f t) tableNumbers t 0 false h ∙ ap (λ (t : ℕ). uses e t && uses f t) (number-at t h)
+  present-at t h = map-at (λ t. uses e t && uses f t) tableNumbers t 0 false h ∙ ap (λ (t : ℕ). uses e t && uses f t) (table-number t h)
 
   present-past : (t : ℕ) → 4 ≤ t → getD (presentIn e f) t false ≡ false
   unfolding presentIn

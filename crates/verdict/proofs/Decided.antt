@@ -4,6 +4,7 @@ use mathlib.Core.Bool.{Bool, true, false, not, and-assoc, and-comm, _&&_}
 use Prim.Native.Nat.{ℕ, _<_}
 use lib.ListN.{length}
 use lib.Dec.{T}
+use Rattle.model.proofs.Rows.{some-cong}
 use Rattle.base.specs.Lists.{anyOf}
 use Rattle.base.specs.Options.{isSome}
 use Rattle.model.specs.Tables.{Row, Job, conditionHolds}
@@ -17,7 +18,6 @@ use Rattle.conditions.proofs.Sought.{Sought, sought-as, sought-is, clauses-soug
 use Rattle.search.proofs.Broken.{outside-sought}
 use Rattle.twins.proofs.Pairs.{some-apart, pairs-sought, pairs-differ}
 use Rattle.verdict.specs.Found.{twin, bothBounds, keepsOne, keepsOther, wantsOne, wantsOther, box, box2, found1, found2, found3, found4, unfixedIn, foundKind}
-use Rattle.twins.proofs.Lists.{some-cong}
 use Rattle.verdict.proofs.Reduced.{differ, asked3, asked4, unfixed, kind-1-sought, kind-2-sought, kind-3-sought, kind-4-sought, fixed-sought}
 use Rattle.verdict.proofs.Limits.{taken, both-fit, twin-below, column-below, outputs-below, keeps-one, keeps-other, wants-one, wants-other}
 

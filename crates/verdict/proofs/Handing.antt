@@ -5,9 +5,9 @@ use mathlib.Core.List.{List}
 use mathlib.Core.Option.{Option, none, some}
 use Prim.Native.Nat.{ℕ, _+_, _<_, _≤_}
 use native.Mathlib.Omega.{arith}
-use lib.ListN.{length, getD, replicate}
+use lib.ListN.{length, getD, replicate, length-replicate}
 use lib.Dec.{T}
-use borrow.Author.Tests.{lt-ltb, le-leb, lt-leb}
+use borrow.Author.Tests.{le-leb, lt-leb}
 use Rattle.base.specs.Options.{isSome, orElse}
 use Rattle.base.proofs.Tests.{by-less}
 use Rattle.base.proofs.Places.{replicate-at}
@@ -160,5 +160,5 @@ pub listing-told : (r : Job) → Given r → r .width ≤ 16 → {marks : List B
 unfolding listingRecord
 listing-told r g few {marks} is = listing-is r (g .laid) (g .formed) marks (λ c h.
     ap (λ (m : List Bool). getD m c false) is
-    ∙ marked-at (unfixedIn (meaningOf r)) (replicate 16 false) (r .width) c (omega arith)
-    ∙ rw (lt-ltb c (r .width) h, replicate-at 16 c false))
+    ∙ marked-at (unfixedIn (meaningOf r)) (replicate 16 false) (r .width) c (omega (arith, length-replicate 16 false)) h
+    ∙ rw (replicate-at 16 c false))

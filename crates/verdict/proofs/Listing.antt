@@ -1,13 +1,14 @@
 -- The listing of a record's columns: how each is found, and that with marks on the columns that aren't fixed it is the job's. Assumes nothing.
 use mathlib.Core.Path.{_≡_, refl, sym, ap, _∙_}
 use mathlib.Core.Bool.{Bool, true, false, not, cond}
-use mathlib.Core.List.{List, map}
+use mathlib.Core.List.{List}
 use Prim.Native.Nat.{ℕ, _<_}
 use native.Mathlib.Omega.{arith}
 use lib.ListN.{getD, take}
 use lib.Dec.{T, eqb}
 use borrow.Author.Tests.{not-true, not-false}
-use Rattle.base.specs.Lists.{anyOf}
+use Rattle.base.proofs.Places.{tabulate-cong}
+use Rattle.base.specs.Lists.{anyOf, tabulate}
 use Rattle.base.specs.Arrays.{padded}
 use Rattle.model.specs.Tables.{uses, tableOf}
 use Rattle.model.specs.WellFormed.{wellFormed}
@@ -16,9 +17,6 @@ use Rattle.job.specs.declared.Job.{Job}
 use Rattle.job.specs.Record.{noColumn}
 use Rattle.job.specs.Meaning.{expressionOf, meaningOf, recordOf}
 use Rattle.job.proofs.Columns.{width-is, table-is}
-use Rattle.twins.specs.Twins.{below}
-use Rattle.twins.proofs.Lists.{map-cong}
-use Rattle.twins.proofs.Twins.{below-has}
 use Rattle.verdict.specs.Databases.{tableAt}
 use Rattle.verdict.specs.Listing.{listedAt, listedBy}
 use Rattle.verdict.specs.Found.{unfixedIn}
@@ -59,6 +57,6 @@ module _ (r : Job) (laid : recordOf (meaningOf r) ≡ r) (w : T (wellFormed (mea
       ap (λ (t : ℕ). cond (out t) 0 (cond is 1 (cond (getD marks c false) 3 2))) (table-is r laid c noColumn h)
       ∙ ap (λ (n : ℕ). cond (out (tableOf (meaningOf r .tables) c)) 0 (cond is 1 n)) (marked-is c h)
 
-  pub listing-is : listedBy r marks ≡ padded 16 0 (map (listingOf (meaningOf r)) (below (r .width)))
+  pub listing-is : listedBy r marks ≡ padded 16 0 (tabulate (r .width) (listingOf (meaningOf r)))
   unfolding listedBy
-  listing-is = ap (padded 16 0) (map-cong (listedAt r marks) (listingOf (meaningOf r)) (below (r .width)) (λ c m. listed-is c (below-has (r .width) m)))
+  listing-is = ap (padded 16 0) (tabulate-cong (r .width) (listedAt r marks) (listingOf (meaningOf r)) listed-is)

@@ -1,15 +1,16 @@
 -- The least row is read with zeros behind it, and two databases are made of it as the kind says. Assumes nothing.
 use mathlib.Core.Path.{_≡_, sym, ap, _∙_}
-use mathlib.Core.List.{List, _++_, map}
-use Prim.Native.Nat.{ℕ, zero, suc, _+_, _-_, _<_, _≤_}
+use mathlib.Core.List.{List, _++_}
+use Prim.Native.Nat.{ℕ, _+_, _-_, _<_, _≤_}
 use native.Mathlib.Omega.{arith}
 use lib.ListN.{length, take, drop, replicate, length-map, length-drop, length-replicate, List·getD-eq-default}
 use lib.Seq.{take-append-le}
 use lib.IntN.{ℤ, pos}
 use borrow.Author.Tests.{le-leb, lt-leb, ne-eqb}
-use Rattle.base.specs.Lists.{at}
+use Rattle.base.proofs.Places.{tabulate-cong}
+use Rattle.base.specs.Lists.{at, tabulate}
 use Rattle.base.specs.Arrays.{padded}
-use Rattle.base.proofs.Arrays.{getD-padded, padded-past}
+use Rattle.base.proofs.Arrays.{getD-padded, padded-past, drop-replicate}
 use Rattle.base.proofs.Tests.{by-less}
 use Rattle.words.specs.Bias.{bias, unbiased}
 use Rattle.model.specs.Tables.{Row, value}
@@ -18,19 +19,12 @@ use Rattle.zone.specs.Array.{zoneIn}
 use Rattle.solver.specs.Uses.{LeastRoom}
 use Rattle.job.specs.declared.Job.{Job}
 use Rattle.twins.specs.declared.TwinRows.{TwinRows}
-use Rattle.twins.specs.Twins.{below}
-use Rattle.twins.proofs.Lists.{map-cong}
 use Rattle.verdict.specs.declared.Database.{Database}
 use Rattle.verdict.specs.declared.Pair.{Pair}
 use Rattle.verdict.specs.Databases.{noDatabase, rowRecord, reducedRecord, leastIn, firstIn, secondIn, onePair, twoPair, pairRecord, shownColumns}
 use Rattle.verdict.specs.Uses.{HasLeast}
 
 -- ---- the least row
-zeros-behind : (n m : ℕ) → drop n (replicate m (pos 0)) ≡ replicate (m - n) (pos 0)
-zeros-behind zero m = let all : m ≡ m - 0 = omega arith in ap (λ (k : ℕ). replicate k (pos 0)) all
-zeros-behind (suc n) zero = let none : 0 ≡ 0 - suc n = omega arith in ap (λ (k : ℕ). replicate k (pos 0)) none
-zeros-behind (suc n) (suc m) = let same : m - n ≡ suc m - suc n = omega arith in zeros-behind n m ∙ ap (λ (k : ℕ). replicate k (pos 0)) same
-
 module _ (n : ℕ) (d : List ℕ) (has : HasLeast n d) where
   room : LeastRoom d (replicate n (pos 0))
   room = has (replicate n (pos 0)) (length-replicate n (pos 0))
@@ -46,7 +40,7 @@ module _ (n : ℕ) (d : List ℕ) (has : HasLeast n d) where
   pub least-read : {row : List ℤ} → row ≡ leastIn n d → row ++ drop n (replicate 32 (pos 0)) ≡ padded 32 (pos 0) (leastIn n d)
   least-read e =
       ap (λ (xs : List ℤ). xs ++ drop n (replicate 32 (pos 0))) e
-      ∙ ap (λ (zs : List ℤ). leastIn n d ++ zs) (zeros-behind n 32 ∙ ap (λ (k : ℕ). replicate (32 - k) (pos 0)) (sym least-size))
+      ∙ ap (λ (zs : List ℤ). leastIn n d ++ zs) (drop-replicate n 32 (pos 0) ∙ ap (λ (k : ℕ). replicate (32 - k) (pos 0)) (sym least-size))
 
 -- ---- the rows in it
 padded-value : (n : ℕ) (row : Row) (k : ℕ) → value (padded n (pos 0) row) k ≡ value row k
@@ -60,10 +54,10 @@ module _ (n : ℕ) (row : Row) {least : List ℤ} (e : least ≡ padded 32 (pos 
       f ∙ ap (λ (xs : List ℤ). padded 16 (pos 0) (take n xs)) e
       ∙ ap (padded 16 (pos 0)) (take-append-le n row (replicate (32 - length row) (pos 0)) h)
 
-  pub second-read : (twin : List ℕ) → {other : List ℤ} → other ≡ padded 16 (pos 0) (map (λ c. value least (at twin c)) (below n)) → other ≡ secondIn n twin row
+  pub second-read : (twin : List ℕ) → {other : List ℤ} → other ≡ padded 16 (pos 0) (tabulate n (λ c. value least (at twin c))) → other ≡ secondIn n twin row
   second-read twin f =
-      f ∙ ap (λ (xs : List ℤ). padded 16 (pos 0) (map (λ c. value xs (at twin c)) (below n))) e
-      ∙ ap (padded 16 (pos 0)) (map-cong (λ c. value (padded 32 (pos 0) row) (at twin c)) (λ c. value row (at twin c)) (below n) (λ c _.
+      f ∙ ap (λ (xs : List ℤ). padded 16 (pos 0) (tabulate n (λ c. value xs (at twin c)))) e
+      ∙ ap (padded 16 (pos 0)) (tabulate-cong n (λ c. value (padded 32 (pos 0) row) (at twin c)) (λ c. value row (at twin c)) (λ c _.
       padded-value 32 row (at twin c)))
 
 -- ---- the databases

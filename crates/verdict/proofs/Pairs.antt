@@ -1,16 +1,17 @@
 -- The two databases of a kind and the row that shows it are those of the finding, and they are tidy. Assumes nothing.
 use mathlib.Core.Path.{_≡_, refl, sym, ap, _∙_}
-use mathlib.Core.List.{List, map}
+use mathlib.Core.List.{List}
 use Prim.Native.Nat.{ℕ, zero, suc, _<_, _≤_}
 use native.Mathlib.Omega.{arith}
-use lib.ListN.{length, take, length-take, length-map}
+use lib.ListN.{length, take, length-take}
 use lib.Seq.{length-take-le, take-all}
 use lib.IntN.{ℤ, pos}
 use lib.Dec.{T}
 use mir.Facts.{and-yes}
 use borrow.Author.Tests.{ne-eqb, lt-leb}
-use Rattle.base.specs.Lists.{at}
-use Rattle.base.proofs.Arrays.{take-padded, padded-length}
+use Rattle.base.proofs.Places.{tabulate-length}
+use Rattle.base.specs.Lists.{at, tabulate}
+use Rattle.base.proofs.Arrays.{take-padded, padded-length, entries-length}
 use Rattle.base.proofs.Tests.{by-less}
 use Rattle.model.proofs.Formed.{Formed, job-formed}
 use Rattle.model.specs.Tables as model
@@ -22,11 +23,9 @@ use Rattle.job.specs.declared.Job.{Job}
 use Rattle.job.specs.Meaning.{meaningOf, recordOf}
 use Rattle.job.proofs.Columns.{width-is}
 use Rattle.twins.specs.declared.TwinRows.{TwinRows}
-use Rattle.twins.specs.Twins.{below}
 use Rattle.twins.specs.Records.{twinsRecord}
-use Rattle.twins.proofs.Twins.{below-length, twins-length}
+use Rattle.twins.proofs.Twins.{twins-length}
 use Rattle.twins.proofs.Twinned.{record-columns, first-is, second-is}
-use Rattle.twins.proofs.Filled.{filled-length}
 use Rattle.verdict.specs.declared.Pair.{Pair}
 use Rattle.verdict.specs.Databases.{noDatabase, databaseOf, TidyDatabase, rowRecord, reducedRecord, firstIn, secondIn, onePair, twoPair, pairRecord, shownColumns}
 use Rattle.verdict.specs.Found.{foundKind, finding}
@@ -82,13 +81,13 @@ module _ (r : Job) (laid : recordOf (meaningOf r) ≡ r) (w : T (wellFormed (mea
     one-back = ap (λ (m : ℕ). take n (firstIn m row)) (width-is r laid) ∙ take-padded 16 (pos 0) (take n row) n (sym (length-take-le n row long))
 
     other-full : length other ≡ 16
-    other-full = filled-length 16 (pos 0) (λ c. value row (at (rows .twin) c)) (r .width) few
+    other-full = entries-length 16 (pos 0) (r .width) (λ c. value row (at (rows .twin) c)) few
 
     other-back : take n other ≡ otherRow j row
     other-back =
         let f : ℕ → ℤ = λ c. value row (at (rows .twin) c) in
         ap (λ (m : ℕ). take n (secondIn m (rows .twin) row)) (width-is r laid)
-        ∙ take-padded 16 (pos 0) (map f (below n)) n (sym (length-map (below n) f ∙ below-length n))
+        ∙ take-padded 16 (pos 0) (tabulate n f) n (sym (tabulate-length n f))
         ∙ second-is (columns j) (j .extract .outputs) row
 
     pub two-shown : Shows r (twoPair r (rows .twin) row) (rowDatabase j (oneRow j row)) (rowDatabase j (otherRow j row))

@@ -1,7 +1,7 @@
 -- What the searches ask of a record that reading gives, and what they find there. Assumes nothing.
 use mathlib.Core.Path.{_≡_, refl, sym, ap, subst, _∙_}
 use mathlib.Core.Bool.{Bool, _||_}
-use mathlib.Core.List.{List, [], _∷_, _++_, map, append-assoc, List·Memᴰ·head, List·Memᴰ·tail}
+use mathlib.Core.List.{map-append, List, [], _∷_, _++_, map, append-assoc}
 use mathlib.Core.Option.{Option, none, some}
 use Prim.Native.Nat.{ℕ, _+_, _-_, _<_, _≤_}
 use native.Mathlib.Omega.{arith}
@@ -9,9 +9,10 @@ use lib.ListN.{length, getD, take, replicate, length-map, List·getD-map}
 use lib.Seq.{length-take-le}
 use lib.IntN.{ℤ, pos}
 use lib.Dec.{T}
+use Rattle.base.proofs.Options.{first-cong}
 use Rattle.base.proofs.Places.{element}
 use Rattle.base.specs.Lists.{_∈_, allOf, at}
-use Rattle.base.specs.Options.{andThen, isSome, firstOf}
+use Rattle.base.specs.Options.{andThen, isSome}
 use Rattle.base.specs.Arrays.{padded}
 use Rattle.base.proofs.Arrays.{padded-length}
 use Rattle.model.specs.Tables as model
@@ -55,10 +56,6 @@ use Rattle.verdict.proofs.Rooms.{stands-in-array, stands-zone}
 use Rattle.solver.proofs.Formed.{outputs-declared}
 
 -- ---- searches with another function that agrees
-first-cong : {A B : Type 0} (f g : A → Option B) (xs : List A) → ((x : A) → x ∈ xs → f x ≡ g x) → firstOf xs f ≡ firstOf xs g
-first-cong f g [] h = refl
-first-cong f g (x ∷ xs) h = rw (h x (List·Memᴰ·head refl), first-cong f g xs (λ y m. h y (List·Memᴰ·tail m)))
-
 clause-cong : (z : Zone) (k : Condition) (f g : Zone → Option Zone) → ((y : Zone) → f y ≡ g y) → byClause z k f ≡ byClause z k g
 clause-cong z k f g h = first-cong (λ c. andThen (imposedAll z c) f) (λ c. andThen (imposedAll z c) g) k (λ c m. go (imposedAll z c))
   where
@@ -91,14 +88,10 @@ listed-first : (bs : List Bounds) (xs ys : List ℤ) → boundsOf (take (length 
 listed-first [] xs ys = refl
 listed-first (b ∷ bs) xs ys = rw (listed-first bs xs ys)
 
-maps-append : (f : Bounds → ℤ) (bs hs : List Bounds) → map f (bs ++ hs) ≡ map f bs ++ map f hs
-maps-append f [] hs = refl
-maps-append f (b ∷ bs) hs = rw (maps-append f bs hs)
-
 padded-front : (f : Bounds → ℤ) (n : ℕ) (bs hs : List Bounds) → (xs : List ℤ) × (padded n (pos 0) (map f (bs ++ hs)) ≡ map f bs ++ xs)
 padded-front f n bs hs =
     let pad = replicate (n - length (map f (bs ++ hs))) (pos 0) in
-    (map f hs ++ pad, ap (λ (l : List ℤ). l ++ pad) (maps-append f bs hs) ∙ append-assoc (map f bs) (map f hs) pad)
+    (map f hs ++ pad, ap (λ (l : List ℤ). l ++ pad) (map-append f bs hs) ∙ append-assoc (map f bs) (map f hs) pad)
 
 first-bounds : (bs : List Bounds) (stored : List ℕ)
     → boundsOf (take (length bs) (twinsRecord bs stored .lo)) (take (length bs) (twinsRecord bs stored .hi)) ≡ bs

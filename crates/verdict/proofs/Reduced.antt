@@ -6,8 +6,9 @@ use Prim.Native.Nat.{ℕ, _<_}
 use lib.ListN.{length}
 use lib.Dec.{T}
 use mir.Facts.{and-yes, yes-and}
+use Rattle.base.proofs.Places.{maps-differ}
 use Rattle.base.specs.Lists.{anyOf}
-use Rattle.base.proofs.Lists.{all-has}
+use Rattle.base.proofs.Lists.{all-has, any-cong}
 use Rattle.base.proofs.Tests.{T-is, stable}
 use Rattle.model.proofs.Formed.{JobFormed, job-formed}
 use Rattle.words.specs.Compare.{eqZ}
@@ -15,11 +16,10 @@ use Rattle.model.specs.Tables.{Row, Job, value, within, conditionHolds, outputs
 use Rattle.model.specs.WellFormed.{inScope, structured, limited, wellFormed}
 use Rattle.model.specs.Rows.{someRow, twoRows, sameRow}
 use Rattle.model.specs.Verdict.{columns, meetsExtract, meetsQuery, stored, answer, alikeInExtract, tablesDiffer, kind1, witness2, kind2, witness3, kind3, witness4, kind4, unfixing, fixed}
-use Rattle.model.proofs.Rows.{has-some}
+use Rattle.model.proofs.Rows.{has-some, some-cong, two-cong}
 use Rattle.solver.proofs.Formed.{scope-declared}
 use Rattle.verdict.specs.Found.{twin, bothBounds, keepsOne, keepsOther, wantsOne, wantsOther}
 use Rattle.verdict.proofs.Rows.{oneRow, otherRow}
-use Rattle.twins.proofs.Lists.{any-cong, maps-differ, some-cong, two-cong}
 use Rattle.twins.proofs.Twins.{first-value, second-value, twins-same, first-within, second-within, twins-sought}
 use Rattle.twins.proofs.Renamed.{first-holds, second-holds}
 

@@ -8,12 +8,12 @@ use native.Mathlib.Numerals.{add-one}
 use lib.ListN.{length, getD}
 use lib.IntN.{ℤ, pos, negsuc}
 use lib.Signed.{leZ, mag}
-use lib.Dec.{T, leb→le}
+use lib.Dec.{T}
 use mir.Facts.{and-yes, yes-and}
-use Rattle.base.proofs.Places.{element}
+use Rattle.base.proofs.Places.{element, pairwise-at}
 use Rattle.base.specs.Lists.{allOf, at}
 use Rattle.base.proofs.Lists.{pairwise-length, all-has}
-use Rattle.model.proofs.Formed.{near}
+use Rattle.model.proofs.Formed.{near, range-word}
 use Rattle.words.specs.Bias.{bias, biased}
 use Rattle.words.specs.Word.{signBit}
 use Rattle.words.proofs.Order.{leZ-trans}
@@ -29,13 +29,8 @@ use Rattle.solver.specs.Solver.{rowOf}
 use Rattle.solver.specs.Uses.{WordNodes, LeastRoom}
 use Rattle.solver.proofs.Nodes.{map-at}
 use Rattle.conditions.proofs.Stands.{Stands}
-use Rattle.twins.proofs.Lists.{pairwise-at}
 
 -- ---- values of 32 bits
-range-word : (v : ℤ) → T (inRange v) → mag v < signBit 4
-range-word (pos n) t = omega (arith, leb→le n 1000000 ((and-yes (leZ (negsuc 999999) (pos n)) (leZ (pos n) (pos 1000000)) t) .1))
-range-word (negsuc n) t = omega (arith, leb→le n 999999 ((and-yes (leZ (negsuc 999999) (negsuc n)) (leZ (negsuc n) (pos 1000000)) t) .0))
-
 inside-range : (b : Bounds) → T (near b) → (v : ℤ) → T (inside b v) → T (inRange v)
 inside-range b h v t =
     let (low, high) = and-yes (inRange (b .lo)) (inRange (b .hi)) h in

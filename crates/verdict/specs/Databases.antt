@@ -6,7 +6,7 @@ use Prim.Native.Nat.{ℕ, _+_, _<_, _≤_}
 use lib.ListN.{length, getD, take, replicate}
 use lib.IntN.{ℤ, pos}
 use lib.Dec.{eqb, leb}
-use Rattle.base.specs.Lists.{at}
+use Rattle.base.specs.Lists.{at, tabulate}
 use Rattle.base.specs.Arrays.{padded}
 use Rattle.model.specs.Tables as model
 use Rattle.model.specs.Tables.{Row, uses, partOf, value}
@@ -19,7 +19,6 @@ use Rattle.job.specs.declared.Job.{Job}
 use Rattle.job.specs.Record.{noColumn}
 use Rattle.job.specs.Meaning.{expressionOf, tableNumbers}
 use Rattle.twins.specs.declared.TwinRows.{TwinRows}
-use Rattle.twins.specs.Twins.{below}
 use Rattle.verdict.specs.declared.Database.{Database}
 use Rattle.verdict.specs.declared.Pair.{Pair}
 
@@ -48,7 +47,7 @@ abbrev pub valueIn : List Column → List Bool → List ℤ → ℕ → ℤ
 valueIn cs ps row c = cond (getD ps (tableAt cs c) false) (value row c) (pos 0)
 
 unfoldable pub databaseRecord : Job → List Bool → List ℤ → Database
-databaseRecord r ps row = record { present = ps; values = padded 16 (pos 0) (map (valueIn (r .columns) ps row) (below (r .width))) }
+databaseRecord r ps row = record { present = ps; values = padded 16 (pos 0) (tabulate (r .width) (valueIn (r .columns) ps row)) }
 
 -- the tables that both expressions use
 unfoldable pub presentIn : model.Expression → model.Expression → List Bool
@@ -76,7 +75,7 @@ abbrev pub firstIn : ℕ → Row → List ℤ
 firstIn n row = padded 16 (pos 0) (take n row)
 
 abbrev pub secondIn : ℕ → List ℕ → Row → List ℤ
-secondIn n twin row = padded 16 (pos 0) (map (λ c. value row (at twin c)) (below n))
+secondIn n twin row = padded 16 (pos 0) (tabulate n (λ c. value row (at twin c)))
 
 -- with kinds 1 and 2: the row, and what is left of it without other tables, or none
 unfoldable pub onePair : Job → ℕ → Row → Pair

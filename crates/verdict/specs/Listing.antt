@@ -1,15 +1,14 @@
 -- The listing of a record's columns, with marks on those that aren't fixed.
 use mathlib.Core.Bool.{Bool, false, not, cond}
-use mathlib.Core.List.{List, map}
+use mathlib.Core.List.{List}
 use Prim.Native.Nat.{ℕ}
 use lib.ListN.{getD, take}
 use lib.Dec.{eqb}
-use Rattle.base.specs.Lists.{anyOf}
+use Rattle.base.specs.Lists.{anyOf, tabulate}
 use Rattle.base.specs.Arrays.{padded}
 use Rattle.model.specs.Tables.{uses}
 use Rattle.job.specs.declared.Job.{Job}
 use Rattle.job.specs.Meaning.{expressionOf}
-use Rattle.twins.specs.Twins.{below}
 use Rattle.verdict.specs.Databases.{tableAt}
 
 -- 0 for a table that the extract leaves out, 1 for a stored column, 3 for a marked one, else 2
@@ -21,4 +20,4 @@ listedAt r marks c =
 
 -- the declared columns in order, with zeros behind
 unfoldable pub listedBy : Job → List Bool → List ℕ
-listedBy r marks = padded 16 0 (map (listedAt r marks) (below (r .width)))
+listedBy r marks = padded 16 0 (tabulate (r .width) (listedAt r marks))

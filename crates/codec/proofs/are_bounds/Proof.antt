@@ -2,8 +2,8 @@
 use borrow.Author.Needs.{needs}
 use mathlib.Core.Path.{_∙_, ap}
 use mir.Facts.{toZ-ofZ}
+use Rattle.base.proofs.Tests.{passed, failed}
 use Rattle.model.specs.WellFormed.{inRange}
-use Rattle.codec.proofs.Tests.{passed, failed}
 use Rattle.codec.proofs.are_bounds.Statement.{statement}
 use Rattle.codec.proofs.are_bounds.Tie as tie
 

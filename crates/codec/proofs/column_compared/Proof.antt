@@ -3,7 +3,7 @@ use Prim.Native.Nat.{_+_}
 use native.Mathlib.Omega.{arith}
 use lib.ListN.{getD}
 use borrow.Author.Needs.{needs}
-use Rattle.codec.proofs.Tests.{passed, failed}
+use Rattle.base.proofs.Tests.{passed, failed}
 use Rattle.codec.proofs.Entries.{width-small, tables-small, scoped-below, no-op-either, left-out-too, right-out, add-columns}
 use Rattle.codec.proofs.column_compared.Statement.{statement}
 use Rattle.codec.proofs.column_compared.Tie as tie

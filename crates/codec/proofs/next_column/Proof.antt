@@ -5,8 +5,9 @@ use native.Mathlib.Omega.{arith}
 use borrow.Author.Needs.{needs, sfits-of}
 use borrow.Author.Needs.{needs}
 use mir.Facts.{toZ-ofZ}
+use Rattle.base.proofs.Tests.{passed, failed}
 use Rattle.words.specs.Word.{valueAt}
-use Rattle.codec.proofs.Tests.{passed, failed, bounds-are}
+use Rattle.codec.proofs.Tests.{bounds-are}
 use Rattle.codec.proofs.Entries.{some-tables, tables-few, not-bounds, add-column}
 use Rattle.codec.proofs.next_column.Statement.{statement}
 use Rattle.codec.proofs.next_column.Tie as tie

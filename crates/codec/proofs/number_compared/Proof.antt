@@ -6,8 +6,9 @@ use borrow.Author.Needs.{needs, sfits-of}
 use borrow.Author.Tests.{not-true, not-false, leb-true, leb-false}
 use borrow.Author.Needs.{needs}
 use mir.Facts.{toZ-ofZ}
+use Rattle.base.proofs.Tests.{passed, failed}
 use Rattle.words.specs.Word.{valueAt}
-use Rattle.codec.proofs.Tests.{passed, failed, range-is}
+use Rattle.codec.proofs.Tests.{range-is}
 use Rattle.codec.proofs.Entries.{width-small, tables-small, too-far, no-op, left-out, add-number}
 use Rattle.codec.proofs.number_compared.Statement.{statement}
 use Rattle.codec.proofs.number_compared.Tie as tie

@@ -5,7 +5,7 @@ use Prim.Native.Nat.{_+_}
 use native.Mathlib.Omega.{arith}
 use lib.ListN.{getD, length}
 use borrow.Author.Needs.{needs}
-use Rattle.codec.proofs.Tests.{passed, failed}
+use Rattle.base.proofs.Tests.{passed, failed}
 use Rattle.codec.proofs.Entries.{width-small, tables-small, outputs-small, out-of-scope, repeated, add-output}
 use Rattle.codec.proofs.output_column.Statement.{statement}
 use Rattle.codec.proofs.output_column.Tie as tie

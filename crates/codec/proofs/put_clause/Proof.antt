@@ -4,9 +4,9 @@ use mathlib.Core.List.{[], _∷_}
 use Prim.Native.Nat.{_-_}
 use native.Mathlib.Omega.{arith}
 use borrow.Author.Needs.{needs}
+use Rattle.base.proofs.Bytes.{puts-length, and-then, room-first, room-next, Turn, turns-begin, turn-room, turn-next, turns-end}
 use Rattle.job.specs.Record.{noComparison}
 use Rattle.codec.specs.Puts.{comparisonIn, clauseBytes}
-use Rattle.codec.proofs.Puts.{puts-length, and-then, room-first, room-next, Turn, turns-begin, turn-room, turn-next, turns-end}
 use Rattle.job.proofs.Records.{six}
 use Rattle.codec.proofs.put_clause.Statement.{statement}
 use Rattle.codec.proofs.put_clause.Tie as tie

@@ -3,8 +3,8 @@ use mathlib.Core.List.{[]}
 use Prim.Native.Nat.{_-_}
 use native.Mathlib.Omega.{arith}
 use borrow.Author.Needs.{needs}
+use Rattle.base.proofs.Bytes.{puts-length, Turn, turns-begin, turn-room, turn-next, turns-end}
 use Rattle.codec.specs.Puts.{clauseBytes, clausesBytes}
-use Rattle.codec.proofs.Puts.{puts-length, Turn, turns-begin, turn-room, turn-next, turns-end}
 use Rattle.job.proofs.Records.{sized-expression}
 use Rattle.codec.proofs.put_clauses.Statement.{statement}
 use Rattle.codec.proofs.put_clauses.Tie as tie

@@ -1,7 +1,8 @@
 -- `codec::put_column` meets its contract: nothing, or the command and the two bounds. Assumes nothing.
 use native.Mathlib.Omega.{arith}
 use borrow.Author.Needs.{needs}
-use Rattle.codec.proofs.Puts.{puts-length, nothing, and-then, stored-put}
+use Rattle.base.proofs.Bytes.{puts-length, nothing, and-then}
+use Rattle.codec.proofs.Puts.{stored-put}
 use Rattle.codec.proofs.Written.{column-own, column-other, room-own}
 use Rattle.codec.proofs.put_column.Statement.{statement}
 use Rattle.codec.proofs.put_column.Tie as tie

@@ -1,7 +1,8 @@
 -- `codec::put_comparison` meets its contract, against a number and against a column. Assumes nothing.
 use native.Mathlib.Omega.{arith}
 use borrow.Author.Needs.{needs}
-use Rattle.codec.proofs.Puts.{puts-length, and-then, stored-put}
+use Rattle.base.proofs.Bytes.{puts-length, and-then}
+use Rattle.codec.proofs.Puts.{stored-put}
 use Rattle.codec.proofs.Written.{with-number, with-column, room-number, room-column}
 use Rattle.codec.proofs.put_comparison.Statement.{statement}
 use Rattle.codec.proofs.put_comparison.Tie as tie

@@ -3,7 +3,7 @@ use mathlib.Core.List.{[], _∷_}
 use Prim.Native.Nat.{_-_}
 use native.Mathlib.Omega.{arith}
 use borrow.Author.Needs.{needs}
-use Rattle.codec.proofs.Puts.{puts-length, Turn, turns-begin, turn-room, turn-next, turns-end}
+use Rattle.base.proofs.Bytes.{puts-length, Turn, turns-begin, turn-room, turn-next, turns-end}
 use Rattle.codec.proofs.put_each.Statement.{statement}
 use Rattle.codec.proofs.put_each.Tie as tie
 

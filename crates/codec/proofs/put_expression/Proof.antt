@@ -1,7 +1,7 @@
 -- `codec::put_expression` meets its contract: its parts one after the other. Assumes nothing.
 use borrow.Author.Needs.{needs}
+use Rattle.base.proofs.Bytes.{and-then}
 use Rattle.codec.specs.Puts.{expressionBytes}
-use Rattle.codec.proofs.Puts.{and-then}
 use Rattle.codec.proofs.Written.{room-used, room-outputs, room-clauses}
 use Rattle.codec.proofs.put_expression.Statement.{statement}
 use Rattle.codec.proofs.put_expression.Tie as tie

@@ -1,6 +1,6 @@
 -- `codec::put_pair` meets its contract. Assumes nothing.
 use borrow.Author.Needs.{needs}
-use Rattle.codec.proofs.Puts.{and-then}
+use Rattle.base.proofs.Bytes.{and-then}
 use Rattle.codec.proofs.put_pair.Statement.{statement}
 use Rattle.codec.proofs.put_pair.Tie as tie
 

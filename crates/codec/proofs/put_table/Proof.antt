@@ -4,9 +4,9 @@ use mathlib.Core.List.{[], _∷_}
 use Prim.Native.Nat.{_-_}
 use native.Mathlib.Omega.{arith}
 use borrow.Author.Needs.{needs}
+use Rattle.base.proofs.Bytes.{puts-length, and-then, room-first, room-next, Turn, turns-begin, turn-room, turn-next, turns-end}
 use Rattle.job.specs.Record.{noColumn}
 use Rattle.codec.specs.Puts.{columnIn, tableBytes}
-use Rattle.codec.proofs.Puts.{puts-length, and-then, room-first, room-next, Turn, turns-begin, turn-room, turn-next, turns-end}
 use Rattle.job.proofs.Records.{sized}
 use Rattle.codec.proofs.put_table.Statement.{statement}
 use Rattle.codec.proofs.put_table.Tie as tie

@@ -2,9 +2,9 @@
 use Prim.Native.Nat.{_-_, _<_}
 use native.Mathlib.Omega.{arith}
 use borrow.Author.Needs.{needs}
+use Rattle.base.proofs.Bytes.{puts-length, Turn, turns-begin, turn-room, turn-next, turns-end}
 use Rattle.job.specs.Meaning.{tableNumbers}
 use Rattle.codec.specs.Puts.{columnsIn, tableBytes, tablesBytes}
-use Rattle.codec.proofs.Puts.{puts-length, Turn, turns-begin, turn-room, turn-next, turns-end}
 use Rattle.codec.proofs.Written.{table-number}
 use Rattle.codec.proofs.put_tables.Statement.{statement}
 use Rattle.codec.proofs.put_tables.Tie as tie

@@ -6,9 +6,9 @@ use Prim.Native.Nat.{_-_}
 use native.Mathlib.Omega.{arith}
 use lib.ListN.{length}
 use borrow.Author.Needs.{needs}
+use Rattle.base.proofs.Tests.{passed, failed}
 use Rattle.codec.specs.declared.Addition.the-variants.{Table as TableAdded, Column as ColumnAdded, Used, Output, Clause as ClauseAdded, Compared}
 use Rattle.codec.specs.Uses.{tablesIn}
-use Rattle.codec.proofs.Tests.{passed, failed}
 use Rattle.codec.proofs.Looks.{table-more}
 use Rattle.codec.proofs.Steps.{room-for}
 use Rattle.codec.proofs.Turns.{Midway, begun, broken-off, again, finished, none-left, not-started, Grown, grew, turned-over, gone-on}

@@ -3,7 +3,7 @@ use Prim.Native.Nat.{_+_}
 use native.Mathlib.Omega.{arith}
 use lib.ListN.{getD}
 use borrow.Author.Needs.{needs}
-use Rattle.codec.proofs.Tests.{passed, failed}
+use Rattle.base.proofs.Tests.{passed, failed}
 use Rattle.codec.proofs.Entries.{tables-small, no-table, not-above, use-table}
 use Rattle.codec.proofs.table_used.Statement.{statement}
 use Rattle.codec.proofs.table_used.Tie as tie

@@ -4,8 +4,8 @@ use native.Mathlib.Omega.{arith}
 use lib.ListN.{getD, length}
 use borrow.Author.Tests.{leb-true}
 use borrow.Author.Needs.{needs}
+use Rattle.base.proofs.Tests.{passed, failed}
 use Rattle.layout.specs.Commands.{operands}
-use Rattle.codec.proofs.Tests.{passed, failed}
 use Rattle.codec.proofs.Steps.{bytes-are, not-due, no-room, too-short, went-on, broke-off}
 use Rattle.codec.proofs.take.Statement.{statement}
 use Rattle.codec.proofs.take.Tie as tie

@@ -1,6 +1,6 @@
 -- `codec::write` meets its contract: the record's parts one after the other, which are the bytes of the job that it means. Assumes nothing.
 use borrow.Author.Needs.{needs}
-use Rattle.codec.proofs.Puts.{and-then}
+use Rattle.base.proofs.Bytes.{and-then}
 use Rattle.job.proofs.Records.{sized}
 use Rattle.codec.proofs.Meant.{recordBytes}
 use Rattle.codec.proofs.Most.{room-tables, room-extract, room-query, room-end, written}

@@ -68,9 +68,9 @@ mark-in-spec =
     let room = room-left u four h _ (loop .inv .1) (meet .0) (meet .1) in
     ⊎-elim
     (λ w. (
-      ap length (w .6 ∙ w .3 .ensures) ∙ marked-length _ _ _,
+      ap length (w .6 ∙ w .3 .ensures) ∙ marked-length _ _ _ ∙ loop .inv .0,
       room,
-      more-marks u four (sought (args .twin)) _ _ _ (loop .inv .2) h _ (loop .inv .1) (meet .0) (meet .1) (w .0 .taken)
+      more-marks u four (sought (args .twin)) _ _ _ (loop .inv .2) h _ (loop .inv .1) (meet .0) (meet .1) (omega (arith, loop .inv .0, c .before .before .before .before .before .before .before .before .pre .paired .small)) (w .0 .taken)
           (w .6 ∙ w .3 .ensures ∙ marked-differ (at (args .twin)) _ _ _),
     ))
     (λ w. (
@@ -85,4 +85,4 @@ mark-in-spec =
     let loop = c .before .loop in
     let u = marks-meeting (c .before .before .before .before .pre) in
     let four = sized-expression (args .p) _ (c .before .before .before .before .good .1 .1 .0) .clauses in
-    all-marks u four (sought (args .twin)) _ _ _ (loop .inv .2) (loop .inv .0) (c .loop-test .left)))
+    all-marks u four (sought (args .twin)) _ _ _ (loop .inv .2) (c .loop-test .left)))

@@ -74,9 +74,9 @@ mark-in-both-spec =
     let room = room-left u four h _ (loop .inv .1) (meet .0) (meet .1) in
     ⊎-elim
     (λ w. (
-      ap length (w .6 ∙ w .3 .ensures) ∙ marked-length _ _ _,
+      ap length (w .6 ∙ w .3 .ensures) ∙ marked-length _ _ _ ∙ loop .inv .0,
       room,
-      more-marks u four (sought (args .k) (args .twin)) _ _ _ (loop .inv .2) h _ (loop .inv .1) (meet .0) (meet .1) (w .0 .taken) (w .6 ∙ w .3 .ensures),
+      more-marks u four (sought (args .k) (args .twin)) _ _ _ (loop .inv .2) h _ (loop .inv .1) (meet .0) (meet .1) (omega (arith, loop .inv .0, c .before .before .before .before .before .before .before .before .pre .first .paired .small)) (w .0 .taken) (w .6 ∙ w .3 .ensures),
     ))
     (λ w. (
       ap length (w .1) ∙ loop .inv .0,
@@ -90,5 +90,5 @@ mark-in-both-spec =
     let loop = c .before .loop in
     let u = marks-meeting (c .before .before .before .before .pre .first) in
     let four = sized-expression (args .p) _ (c .before .before .before .before .good .1 .1 .0) .clauses in
-    all-marks u four (sought (args .k) (args .twin)) _ _ _ (loop .inv .2) (loop .inv .0) (c .loop-test .left)
+    all-marks u four (sought (args .k) (args .twin)) _ _ _ (loop .inv .2) (c .loop-test .left)
     ∙ marked-pairs _ _ (conditionOf (args .k)) (λ k. ifDiffer k (at (args .twin) k)) _ _))

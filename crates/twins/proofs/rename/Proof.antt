@@ -1,19 +1,23 @@
--- `twins::rename` meets its contract: one clause more with each turn. Assumes nothing.
-use mathlib.Core.Path.{ap}
-use mathlib.Core.List.{List}
+-- `twins::rename` meets its contract: a pass over the clauses. The measure is the number of those that are left. Assumes nothing.
+use mathlib.Core.Path.{_≡_, refl, ap}
+use mathlib.Core.List.{List, []}
 use Prim.Native.Nat.{_-_}
 use native.Mathlib.Omega.{arith}
+use lib.ListN.{length, getD}
+use Rattle.base.proofs.Arrays.{Pass, pass-start, front-turn, front-map}
 use Rattle.job.specs.declared.Clause.{Clause}
 use Rattle.job.specs.declared.Expression.{Expression}
-use Rattle.job.specs.Record.{noClause}
 use Rattle.job.proofs.Records.{sized-expression}
 use Rattle.twins.specs.Records.{renamedClause, renamedExpression}
-use Rattle.twins.proofs.Mapped.{Mapped, mapped-none, mapped-more, mapped-all}
 use Rattle.twins.proofs.rename.Statement.{statement}
 use Rattle.twins.proofs.rename.Tie as tie
 
+-- what stands past the end of an array
+abbrev none : Clause
+none = record { size = 0; comparisons = [] }
+
 abbrev Inv-loop : tie.InvT-loop
-Inv-loop e twin given clauses₀ q₀ clauses q = Mapped 4 noClause (renamedClause twin) given q clauses
+Inv-loop e twin given clauses₀ q₀ clauses q = (length given ≡ 4) × Pass (λ i. renamedClause twin (getD given i none)) 0 (length given) q given clauses
 
 abbrev μ-loop : tie.MeasureT-loop
 μ-loop e twin given clauses₀ q₀ clauses q = 4 - q
@@ -24,7 +28,8 @@ returns c =
     let e = c .before .before .before .before .before .args .e in
     let with : List Clause → Expression = λ cs.
     record { tables = e .tables; used = e .used; width = e .width; outputs = e .outputs; size = e .size; clauses = cs } in
-    ap with (mapped-all 4 noClause _ _ (c .before .before .before .loop .inv) (c .before .before .loop-test .left))
+    let l = c .before .before .before .loop .inv in
+    ap with (front-map _ none (e .clauses) (l .1) (omega (arith, l .0, c .before .before .loop-test .left)) refl)
 
 pub rename-spec : {M : Type 1} → statement M
 rename-spec =
@@ -32,7 +37,7 @@ rename-spec =
     (tie.spec
     Inv-loop
     μ-loop
-    (λ c. mapped-none 4 noClause (renamedClause (c .before .args .twin)) (c .before .args .e .clauses) (sized-expression (c .before .args .e) _ (c .before .good .0) .clauses))
+    (λ c. (sized-expression (c .before .args .e) _ (c .before .good .0) .clauses, pass-start _ _ _ _))
     (λ c. omega arith)
     (λ c. omega arith)
     (λ c κs. record { compares = c .before .before .before .before .pre .compares _ (c .before .loop-test .taken); names = c .before .before .before .before .pre .names })
@@ -40,5 +45,7 @@ rename-spec =
     (λ c. omega arith)
     (λ c. omega arith)
     (λ c. omega arith)
-    (λ c. mapped-more 4 noClause _ _ (c .before .before .before .loop .inv) _ _ (c .before .before .loop-test .taken) (c .rename-clause .ensures))
+    (λ c.
+    let l = c .before .before .before .loop .inv in
+    (l .0, front-turn (l .1) (omega (arith, l .0, c .before .before .loop-test .taken)) (c .rename-clause .ensures)))
     returns)

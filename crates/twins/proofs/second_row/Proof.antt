@@ -1,24 +1,20 @@
--- `twins::second_row` meets its contract: one value more with each turn. Assumes nothing.
-use mathlib.Core.Path.{_≡_, refl, ap, _∙_}
-use mathlib.Core.List.{map}
-use Prim.Native.Nat.{ℕ, _-_, _≤_}
+-- `twins::second_row` meets its contract: a pass over the row. The measure is the number of columns that are left. Assumes nothing.
+use mathlib.Core.Path.{_≡_}
+use Prim.Native.Nat.{_-_}
 use native.Mathlib.Omega.{arith}
-use lib.ListN.{length-set, length}
-use lib.IntN.{ℤ, pos}
+use lib.ListN.{length, replicate}
+use lib.IntN.{pos}
 use borrow.Author.Needs.{needs}
 use Rattle.base.specs.Lists.{at}
-use Rattle.base.specs.Arrays.{padded}
+use Rattle.base.proofs.Arrays.{Pass, pass-start, front-turn, front-padded}
 use Rattle.words.proofs.Stored.{stored}
 use Rattle.model.specs.Tables.{value}
-use Rattle.twins.specs.Twins.{below}
-use Rattle.twins.proofs.Filled.{filled-more}
 use Rattle.twins.proofs.second_row.Statement.{statement}
 use Rattle.twins.proofs.second_row.Tie as tie
 
 abbrev Inv-loop : tie.InvT-loop
 Inv-loop n row twin second₀ c₀ second c =
-    (c ≤ n) × (length row ≡ 32) × (length twin ≡ 16) × (length second ≡ 16)
-    × (second ≡ padded 16 (pos 0) (map (λ c. value row (at twin c)) (below c)))
+    (length row ≡ 32) × (length twin ≡ 16) × Pass (λ c. value row (at twin c)) 0 n c (replicate 16 (pos 0)) second
 
 abbrev μ-loop : tie.MeasureT-loop
 μ-loop n row twin second₀ c₀ second c = n - c
@@ -29,24 +25,20 @@ second-row-spec =
     (tie.spec
     Inv-loop
     μ-loop
-    (λ c. (omega arith, search needs, search needs, refl, refl))
+    (λ c. (search needs, search needs, pass-start _ _ _ _))
     (λ c. omega (arith, c .before .before .pre .few))
     (λ c. omega (arith, c .before .before .pre .stand (c .before .loop .c) (c .loop-test .taken)))
     (λ c. omega (arith, c .before .before .pre .stand (c .before .loop .c) (c .loop-test .taken)))
-    (λ c. omega (arith, c .before .loop .inv .1, c .before .before .pre .stand (c .before .loop .c) (c .loop-test .taken)))
-    (λ c. omega (arith, c .before .before .before .pre .few))
-    (λ c. omega (arith, c .before .before .before .pre .few))
+    (λ c. omega (arith, c .before .loop .inv .0, c .before .before .pre .stand (c .before .loop .c) (c .loop-test .taken)))
+    (λ c. omega (arith, c .before .before .before .pre .few, c .before .before .loop .inv .2 .size))
+    (λ c. omega (arith, c .before .before .before .pre .few, c .before .before .loop .inv .2 .size))
     (λ c. omega arith)
     (λ c. omega arith)
     (λ c.
-    let f : ℕ → ℤ = λ k. value (c .before .before .before .args .t1) (at (c .before .before .before .args .t2) k) in (
-      omega arith,
-      c .before .before .loop .inv .1,
-      c .before .before .loop .inv .2,
-      simp length-set (c .before .before .loop .inv .3),
-      filled-more 16 (pos 0) f (c .before .before .loop .c) (omega (arith, c .before .loop-test .taken, c .before .before .before .pre .few)) (c .before .before .loop .inv .4)
-          (stored (f (c .before .before .loop .c)) (omega (arith, c .second .given))),
+    let args = c .before .before .before .args in
+    let l = c .before .before .loop in (
+      l .inv .0,
+      l .inv .1,
+      front-turn (l .inv .2) (c .before .loop-test .taken) (stored (value (args .t1) (at (args .t2) (l .c))) (omega (arith, c .second .given))),
     ))
-    (λ c.
-    let all : c .before .loop .c ≡ c .before .before .args .n = omega (arith, c .before .loop .inv .0, c .loop-test .left) in
-    c .before .loop .inv .4 ∙ ap (λ (k : ℕ). padded 16 (pos 0) (map (λ (i : ℕ). value (c .before .before .args .t1) (at (c .before .before .args .t2) i)) (below k))) all))
+    (λ c. front-padded (pos 0) (c .before .loop .inv .2) (c .loop-test .left) (c .before .before .pre .few)))
