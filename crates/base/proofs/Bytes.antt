@@ -74,26 +74,28 @@ take-reached i n l h =
     min-cases n (length l) _ (λ less e. let same : i ≡ n = omega arith in rw same)
     (λ more e. take-all i l (omega arith) ∙ sym (take-all n l more))
 
--- those of the first n elements of l up to i are put, and for the others there is room
-pub record Turn {A : Type 0} (f : A → List ℕ) (n : ℕ) (l : List A) (old : List ℕ) (at : ℕ) (new : List ℕ) (p i : ℕ) : Type 0 where
-  pub within : i ≤ min n (length l)
-  pub room : Room new p (flatMap (drop i (take n l)) f)
+-- of the first k elements of l, which are n, those up to i are put, and for the others there is room
+pub record Turn {A : Type 0} (f : A → List ℕ) (k : ℕ) (l : List A) (n : ℕ) (old : List ℕ) (at : ℕ) (new : List ℕ) (p i : ℕ) : Type 0 where
+  pub count : n ≡ min k (length l)
+  pub within : i ≤ n
+  pub room : Room new p (flatMap (drop i (take k l)) f)
   pub done : Puts old new at p (flatMap (take i l) f)
 
-module _ {A : Type 0} {f : A → List ℕ} {n : ℕ} {l : List A} where
-  pub turns-begin : {old : List ℕ} {at : ℕ} → Room old at (flatMap (take n l) f) → Turn f n l old at old at 0
-  turns-begin {old} {at} r = record { within = omega arith; room = r; done = nothing old at }
+module _ {A : Type 0} {f : A → List ℕ} {k : ℕ} {l : List A} {n : ℕ} where
+  pub turns-begin : {old : List ℕ} {at : ℕ} → n ≡ min k (length l) → Room old at (flatMap (take k l) f) → Turn f k l n old at old at 0
+  turns-begin {old} {at} e r = record { count = e; within = omega arith; room = r; done = nothing old at }
 
-  module _ {old new : List ℕ} {at p i : ℕ} (x : Turn f n l old at new p i) where
-    pub turn-room : (d : A) → i < min n (length l) → Room new p (f (getD l i d))
-    turn-room d h = room-first (f (getD l i d)) _ (rw (left f n l i d h) at (x .room))
+  module _ {old new : List ℕ} {at p i : ℕ} (x : Turn f k l n old at new p i) where
+    pub turn-room : (d : A) → i < n → Room new p (f (getD l i d))
+    turn-room d h = room-first (f (getD l i d)) _ (rw (left f k l i d (omega (arith, x .count))) at (x .room))
 
-    pub turn-next : {newer : List ℕ} {r : ℕ} (d : A) → i < min n (length l) → Puts new newer p r (f (getD l i d)) → Turn f n l old at newer r (i + 1)
+    pub turn-next : {newer : List ℕ} {r : ℕ} (d : A) → i < n → Puts new newer p r (f (getD l i d)) → Turn f k l n old at newer r (i + 1)
     turn-next d h y = record {
+      count = x .count;
       within = omega arith;
-      room = room-next (f (getD l i d)) _ (rw (left f n l i d h) at (x .room)) y;
-      done = rw (add-one, take-suc l i d (omega arith), flatMap-snoc f (take i l) (getD l i d)) (and-then (x .done) y);
+      room = room-next (f (getD l i d)) _ (rw (left f k l i d (omega (arith, x .count))) at (x .room)) y;
+      done = rw (add-one, take-suc l i d (omega (arith, x .count)), flatMap-snoc f (take i l) (getD l i d)) (and-then (x .done) y);
     }
 
-    pub turns-end : min n (length l) ≤ i → Puts old new at p (flatMap (take n l) f)
-    turns-end h = rw (take-reached i n l (omega (arith, x .within))) at (x .done)
+    pub turns-end : n ≤ i → Puts old new at p (flatMap (take k l) f)
+    turns-end h = rw (take-reached i k l (omega (arith, x .count, x .within))) at (x .done)

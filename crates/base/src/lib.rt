@@ -5,7 +5,7 @@ ghost use mathlib.Core.List.{[], _∷_};
 ghost use Prim.Native.Nat.{_≤_, _<_};
 ghost use lib.ListN.{length, take};
 ghost use lib.Dec.{eqb};
-ghost use Rattle.base.specs.Lists.{anyOf};
+ghost use Rattle.base.specs.Lists.{anyOf, pairwise};
 ghost use Rattle.base.specs.Bytes.{Room, Puts};
 
 // A byte as an index. It stays below 256.
@@ -28,6 +28,21 @@ pub fn is_among(a: &[u8], n: usize, x: u8) -> bool
         i += 1;
     }
     false
+}
+
+// Whether two runs of bytes of one length are alike.
+pub fn same_bytes<'a>(a: &'a [u8], b: &'a [u8]) -> bool
+    requires { ⌜ length (now b) ≡ length (now a) ⌝ }
+    ensures { λ r. ⌜ r ≡ pairwise eqb (now (a .entry)) (now (b .entry)) ⌝ }
+{
+    let mut i = 0;
+    while i < a.len() {
+        if a[i] != b[i] {
+            return false;
+        }
+        i += 1;
+    }
+    true
 }
 
 // A byte at a place, and the next place.

@@ -56,6 +56,11 @@ impl Job {
 
     pub const COMPARISONS: usize = 6;
 
+    // No bound of a column, and no number that a column is compared with, is below or above these.
+    pub const LOWEST: i32 = -1_000_000;
+
+    pub const HIGHEST: i32 = 1_000_000;
+
     // Zeros throughout: what stands beside a refusal, and what reading begins with.
     pub fn empty() -> Self
         ensures { λ r. ⌜ r ≡ noJob ⌝ }
@@ -97,20 +102,6 @@ fn no_expression() -> Expression
         size: 0,
         clauses: [clause; Job::CLAUSES],
     }
-}
-
-fn same_bytes<'a>(a: &'a [u8], b: &'a [u8]) -> bool
-    requires { ⌜ length (now b) ≡ length (now a) ⌝ }
-    ensures { λ r. ⌜ r ≡ pairwise eqb (now (a .entry)) (now (b .entry)) ⌝ }
-{
-    let mut i = 0;
-    while i < a.len() {
-        if a[i] != b[i] {
-            return false;
-        }
-        i += 1;
-    }
-    true
 }
 
 fn same_column(a: Column, b: Column) -> bool
@@ -194,13 +185,13 @@ fn same_expression(a: Expression, b: Expression) -> bool
     if a.tables != b.tables {
         return false;
     }
-    if !same_bytes(&a.used, &b.used) {
+    if !base::same_bytes(&a.used, &b.used) {
         return false;
     }
     if a.width != b.width {
         return false;
     }
-    if !same_bytes(&a.outputs, &b.outputs) {
+    if !base::same_bytes(&a.outputs, &b.outputs) {
         return false;
     }
     if a.size != b.size {

@@ -4,12 +4,12 @@
 // refusal's position or, with 0, the number of bytes that the job is written as; and then those, and the verdict. A verdict is the kind, a byte
 // for each of 16 columns, and two databases: for each of 4 tables a byte, 1 where it has its row, and for each column its value in four bytes.
 // All numbers have their low byte first. Where the input ends within a job, nothing more is answered.
-use codec::Answer;
 use job::Job;
 use libc::STDIN_FILENO;
 use libc::STDOUT_FILENO;
 use pobghine::Decision;
 use pobghine::Written;
+use reader::Answer;
 use verdict::Database;
 ghost use Prim.Native.Nat.{_+_, _<_, _≤_};
 ghost use lib.ListN.{length};
@@ -64,7 +64,7 @@ fn put_verdict(job: Job) -> bool {
 }
 
 fn answer_whole(job: Job) -> bool {
-    let mut out = [0u8; codec::MOST];
+    let mut out = [0u8; writer::MAX_JOB_BYTES];
     let written = pobghine::write(job, &mut out);
     match written {
         Written::Refused(number, at) => put_head(number, at),

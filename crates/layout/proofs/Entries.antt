@@ -18,7 +18,7 @@ use Rattle.model.specs.Coded.{opAt}
 use Rattle.model.proofs.Theorems.{op-back}
 use Rattle.layout.specs.declared.Command.{Command}
 use Rattle.layout.specs.declared.Command.the-variants.{NextTable, NextColumn, ExtractBegins, QueryBegins, TableUsed, OutputColumn, NextClause, NumberCompared, ColumnCompared, End}
-use Rattle.layout.specs.Commands.{ending, Entry, addTable, addColumn, mark, useTable, addOutput, addClause, addComparison, entryAt}
+use Rattle.layout.specs.Commands.{inClause, ending, Entry, addTable, addColumn, mark, useTable, addOutput, addClause, addComparison, entryAt}
 use Rattle.layout.specs.Reading.{State, current, follows, withUsed, withOutput, withCondition, withCurrent, after}
 use Rattle.layout.specs.Writing.{tableEntries, clauseEntries, expressionEntries, entriesOf}
 use Rattle.layout.proofs.Growing.{either, among}
@@ -150,7 +150,7 @@ module _ (st : State) (s : Sound st) where
   more-comparison : (d o l : ℕ) (r : Against) → 0x41 ≤ d → d ≤ 0x42 → T (follows st NumberCompared) → T (leb o 4)
       → soFar (after d (addComparison o l r) st) ≡ soFar st ++ addComparison o l r ∷ []
   more-comparison d o l r g h f k =
-      let (lo, hi) = among (st .last) 0x40 0x42 (0x40 ∷ 0x41 ∷ 0x42 ∷ []) f tt in
+      let (lo, hi) = among (st .last) 0x40 0x42 inClause f tt in
       in-part (st .last) d (st .inQuery) (st .job) _ (addComparison o l r) (omega arith) hi (omega arith) h
       (entries-comparison (current st) o l r (leb→le o 4 k) (s .begun .some-clauses lo hi))
 

@@ -20,7 +20,7 @@ use Rattle.model.specs.Coded.{opAt}
 use Rattle.model.specs.WellFormed.{inScope, againstInScope, comparisonFormed, inRange, againstLimited, expressionFormed, conditionLimited}
 use Rattle.layout.specs.declared.Command.{Command}
 use Rattle.layout.specs.declared.Command.the-variants.{NextTable, NextColumn, ExtractBegins, QueryBegins, TableUsed, OutputColumn, NextClause, NumberCompared, ColumnCompared, End}
-use Rattle.layout.specs.Commands.{ending, addTable, addColumn, mark, useTable, addOutput, addClause, addComparison, entryAt}
+use Rattle.layout.specs.Commands.{inClause, ending, addTable, addColumn, mark, useTable, addOutput, addClause, addComparison, entryAt}
 use Rattle.layout.specs.Reading.{State, noExpression, atStart, current, follows, hasRoom, aboveLast, withUsed, withOutput, withCondition, withCurrent, after, next, stepOf}
 use Rattle.layout.proofs.Growing.{ascending-more, differ-more, either, among}
 use Rattle.layout.proofs.Given.{byteOf, Given, step-given}
@@ -282,7 +282,7 @@ module _ (st : State) (s : Sound st) where
       → T (againstLimited r) → T (inScope (st .job .tables) (current st) l && againstInScope (st .job .tables) (current st) r)
       → Sound (after d (addComparison o l r) st)
   sound-comparison d o l r g h f m a n =
-      let (lo, hi) = among (st .last) 0x40 0x42 (0x40 ∷ 0x41 ∷ 0x42 ∷ []) f tt in
+      let (lo, hi) = among (st .last) 0x40 0x42 inClause f tt in
       in-expression (st .last) d (st .inQuery) (st .job) _ s (omega arith) (omega arith) h
       (begun-comparison (st .job .tables) (st .last) (current st) (s .begun) d (record { op = opAt o; left = l; right = r }) g lo hi m n a)
 

@@ -19,7 +19,7 @@ use Rattle.model.specs.WellFormed.{tableFormed, inScope, againstInScope, compar
 use Rattle.model.proofs.Theorems.{op-number}
 use Rattle.layout.specs.declared.Command.{Command}
 use Rattle.layout.specs.declared.Command.the-variants.{NextColumn, TableUsed, OutputColumn, NextClause, NumberCompared, ColumnCompared}
-use Rattle.layout.specs.Commands.{ending, before, Entry, addTable, addColumn, useTable, addOutput, addClause, addComparison}
+use Rattle.layout.specs.Commands.{inClause, ending, before, Entry, addTable, addColumn, useTable, addOutput, addClause, addComparison}
 use Rattle.layout.specs.Reading.{State, noExpression, atStart, current, hasRoom, inRanges, opKnown, declared, isNew, withCurrent, added}
 use Rattle.layout.specs.Writing.{tableEntries, clauseEntries, expressionEntries}
 use Rattle.layout.proofs.Taken.{Spelled, spelled-table, spelled-column, spelled-used, spelled-output, spelled-clause, spelled-against, spelled-columns, Legal, Run, done, run-one, run-append}
@@ -158,10 +158,6 @@ op-below more = omega arith
 
 abbrev upTo : List ℕ → List ℕ → List Clause → Expression
 upTo us os ks = record { used = us; outputs = os; condition = ks }
-
--- where a comparison may stand
-abbrev inClause : List ℕ
-inClause = 0x40 ∷ 0x41 ∷ 0x42 ∷ []
 
 -- an expression that is well formed over the tables of j
 module _ (q : Bool) (j : Job) (few : length (j .tables) ≤ 4) (columns : length (columnsOf (j .tables)) ≤ 16)

@@ -71,30 +71,26 @@ pub spelled-end : Spelled End 0xFF (mark 0xFF)
 unfolding commandOf
 spelled-end = alone (mark 0xFF) refl refl refl (omega arith) (λ s at. refl)
 
--- numbers of one byte
+-- a command with a number of one byte
+numbered : {c : Command} {b : ℕ} (f : ℕ → Entry) (n : ℕ) → entryBytes (f n) ≡ b ∷ n ∷ [] → commandOf b ≡ some c → 1 ≡ operands c → b < 256
+    → ((s : List ℕ) (at : ℕ) → entryAt c s at ≡ f (getD s (at + 1) 0)) → n < 256 → Spelled c b (f n)
+numbered {b = b} f n w l z h r k = record {
+  rest = n ∷ [];
+  spelt = w;
+  listed = l;
+  size = z;
+  byte = h;
+  bytes = bytes-more n [] k bytes-none;
+  read = λ pre post. rw (w, r) (ap f (getD-append-add pre (b ∷ n ∷ post) 1 0));
+}
+
 pub spelled-used : (t : ℕ) → t < 256 → Spelled TableUsed 0x30 (useTable t)
 unfolding commandOf
-spelled-used t h = record {
-  rest = t ∷ [];
-  spelt = refl;
-  listed = refl;
-  size = refl;
-  byte = omega arith;
-  bytes = bytes-more t [] h bytes-none;
-  read = λ pre post. ap useTable (getD-append-add pre (0x30 ∷ t ∷ post) 1 0);
-}
+spelled-used t = numbered useTable t refl refl refl (omega arith) (λ s at. refl)
 
 pub spelled-output : (c : ℕ) → c < 256 → Spelled OutputColumn 0x31 (addOutput c)
 unfolding commandOf
-spelled-output c h = record {
-  rest = c ∷ [];
-  spelt = refl;
-  listed = refl;
-  size = refl;
-  byte = omega arith;
-  bytes = bytes-more c [] h bytes-none;
-  read = λ pre post. ap addOutput (getD-append-add pre (0x31 ∷ c ∷ post) 1 0);
-}
+spelled-output c = numbered addOutput c refl refl refl (omega arith) (λ s at. refl)
 
 -- values of four bytes
 encoded-bytes : (v : ℤ) → Bytes (encoded 4 v)

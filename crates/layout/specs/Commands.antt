@@ -46,9 +46,13 @@ operands End = 0
 
 -- ---- Order
 
+-- within a clause: a comparison may follow
+abbrev pub inClause : List ℕ
+inClause = 0x40 ∷ 0x41 ∷ 0x42 ∷ []
+
 -- where an expression may end
 abbrev pub ending : List ℕ
-ending = 0x31 ∷ 0x40 ∷ 0x41 ∷ 0x42 ∷ []
+ending = 0x31 ∷ inClause
 
 -- the commands that a command may follow, in the query or before it; 0 is the start
 abbrev pub before : Bool → Command → List ℕ
@@ -58,9 +62,9 @@ before inQuery ExtractBegins = 0x11 ∷ []
 before inQuery QueryBegins = cond inQuery [] ending
 before inQuery TableUsed = 0x20 ∷ 0x21 ∷ 0x30 ∷ []
 before inQuery OutputColumn = 0x30 ∷ 0x31 ∷ []
-before inQuery NextClause = 0x31 ∷ 0x40 ∷ 0x41 ∷ 0x42 ∷ []
-before inQuery NumberCompared = 0x40 ∷ 0x41 ∷ 0x42 ∷ []
-before inQuery ColumnCompared = 0x40 ∷ 0x41 ∷ 0x42 ∷ []
+before inQuery NextClause = ending
+before inQuery NumberCompared = inClause
+before inQuery ColumnCompared = inClause
 before inQuery End = cond inQuery ending []
 
 -- ---- Entries

@@ -16,9 +16,9 @@ use Rattle.job.proofs.Meaning.{meaning-record}
 use Rattle.job.proofs.Equal.{same-is, same-self}
 use Rattle.layout.specs.Reading.{Reading, accepted, refused, readOf}
 use Rattle.layout.proofs.Theorems as layout
-use Rattle.codec.specs.declared.Decoded.{Decoded}
-use Rattle.codec.specs.declared.Answer.the-variants.{Whole, Refused}
-use Rattle.codec.specs.Answers.{decodedOf}
+use Rattle.reader.specs.declared.Decoded.{Decoded}
+use Rattle.reader.specs.declared.Answer.the-variants.{Whole, Refused}
+use Rattle.reader.specs.Answers.{decodedOf}
 use Rattle.pobghine.specs.Records.{isRead, bytesOf}
 
 pub meaning-back : (j : model.Job) → T (wellFormed j) → meaningOf (recordOf j) ≡ j

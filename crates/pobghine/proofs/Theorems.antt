@@ -20,8 +20,8 @@ use Rattle.job.specs.Meaning.{meaningOf, recordOf}
 use Rattle.job.proofs.Tidy.{record-tidy}
 use Rattle.layout.specs.Reading.{readOf}
 use Rattle.layout.proofs.Theorems as layout
-use Rattle.codec.specs.declared.Answer.the-variants.{Whole}
-use Rattle.codec.specs.Answers.{decodedOf}
+use Rattle.reader.specs.declared.Answer.the-variants.{Whole}
+use Rattle.reader.specs.Answers.{decodedOf}
 use Rattle.verdict.specs.declared.Database.{Database}
 use Rattle.verdict.specs.Databases.{noDatabase, databaseOf}
 use Rattle.pobghine.specs.declared.Written.the-variants.{Count}

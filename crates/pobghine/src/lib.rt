@@ -2,28 +2,28 @@
 ghost use mathlib.Core.Path.{_≡_};
 ghost use lib.ListN.{length};
 ghost use Rattle.layout.specs.Reading.{readOf};
-ghost use Rattle.codec.specs.Answers.{decodedOf};
+ghost use Rattle.reader.specs.Answers.{decodedOf};
 ghost use Rattle.pobghine.specs.Records.{isRead, writtenOf, lentAfter};
 ghost use Rattle.pobghine.specs.Deciding.{decisionOf, listingIn, PairOf};
-use codec::Answer;
-use codec::Decoded;
 use job::Job;
+use reader::Answer;
+use reader::Decoded;
 use verdict::Database;
 
 // Reads a job: its record, or a refusal with the empty record beside it.
 pub fn read(s: &[u8]) -> Decoded
     ensures { λ r. ⌜ r ≡ decodedOf (readOf (now (s .entry))) ⌝ }
 {
-    codec::read(s)
+    reader::read(s)
 }
 
 // Whether reading gives a record, which decides on refusal 12: one that it gives is read again from what is written of it.
 fn is_read(job: Job) -> bool
     ensures { λ r. ⌜ r ≡ isRead job ⌝ }
 {
-    let mut bytes = [0u8; codec::MOST];
-    let n = codec::write(job, &mut bytes);
-    let back = codec::read(&bytes[..n]);
+    let mut bytes = [0u8; writer::MAX_JOB_BYTES];
+    let n = writer::write(job, &mut bytes);
+    let back = reader::read(&bytes[..n]);
     let answer = back.answer;
     let again = back.job;
     let Answer::Whole = answer else {
@@ -46,8 +46,8 @@ pub fn write(job: Job, out: &mut [u8]) -> Written
     if !is_read(job) {
         return Written::Refused(12, 0);
     }
-    let mut bytes = [0u8; codec::MOST];
-    let n = codec::write(job, &mut bytes);
+    let mut bytes = [0u8; writer::MAX_JOB_BYTES];
+    let n = writer::write(job, &mut bytes);
     if out.len() < n {
         return Written::Refused(17, 0);
     }

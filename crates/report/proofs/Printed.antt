@@ -5,8 +5,11 @@ use Prim.Native.Nat.{ℕ, _≤_}
 use native.Mathlib.Omega.{arith}
 use lib.ListN.{length, take}
 use lib.Dec.{T}
+use Rattle.base.specs.Lists.{tabulate}
 use Rattle.base.specs.Arrays.{padded}
 use Rattle.base.proofs.Tests.{T-is}
+use Rattle.base.proofs.Places.{tabulate-length}
+use Rattle.base.proofs.Arrays.{take-padded}
 use Rattle.model.specs.Tables as model
 use Rattle.model.specs.WellFormed.{wellFormed}
 use Rattle.model.proofs.Formed.{well-formed}
@@ -15,10 +18,10 @@ use Rattle.job.specs.declared.Job.{Job}
 use Rattle.job.specs.Meaning.{recordOf}
 use Rattle.layout.specs.Reading.{Reading, accepted, refused, readOf}
 use Rattle.layout.proofs.Theorems.{read-formed, read-enough}
-use Rattle.codec.specs.declared.Answer.{Answer}
-use Rattle.codec.specs.declared.Answer.the-variants as read
-use Rattle.codec.specs.declared.Decoded.{Decoded}
-use Rattle.codec.specs.Answers.{decodedOf}
+use Rattle.reader.specs.declared.Answer.{Answer}
+use Rattle.reader.specs.declared.Answer.the-variants as read
+use Rattle.reader.specs.declared.Decoded.{Decoded}
+use Rattle.reader.specs.Answers.{decodedOf}
 use Rattle.verdict.specs.Verdict.{listingRecord}
 use Rattle.pobghine.specs.declared.Decision.{Decision}
 use Rattle.pobghine.specs.declared.Decision.the-variants as decided

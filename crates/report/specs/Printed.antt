@@ -2,6 +2,7 @@
 use mathlib.Core.List.{List}
 use Prim.Native.Nat.{ℕ}
 use lib.ListN.{length, take}
+use Rattle.base.specs.Lists.{tabulate}
 use Rattle.model.specs.Tables as model
 use Rattle.model.specs.Verdict.{columns, kindOf, listingOf}
 use Rattle.job.specs.declared.Job.{Job}

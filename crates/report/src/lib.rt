@@ -7,9 +7,9 @@ ghost use Rattle.base.specs.Lists.{flatMap};
 ghost use Rattle.base.specs.Bytes.{Room, Puts};
 ghost use Rattle.report.specs.Text.{digits, field, refusalText, verdictText};
 ghost use Rattle.report.specs.Printed.{printed, recordText};
-use codec::Answer;
 use job::Job;
 use pobghine::Decision;
+use reader::Answer;
 
 // Enough bytes for every text: a verdict would take as many if its kind and the listing of 16 columns had three digits each.
 pub const MOST: usize = 81;

@@ -3,9 +3,9 @@ use mathlib.Core.Path.{_≡_, sym, ap, _∙_}
 use mathlib.Core.List.{List}
 use Prim.Native.Nat.{ℕ}
 use Rattle.layout.specs.Reading.{readOf}
-use Rattle.codec.specs.declared.Decoded.{Decoded}
-use Rattle.codec.specs.declared.Answer.the-variants as read
-use Rattle.codec.specs.Answers.{decodedOf}
+use Rattle.reader.specs.declared.Decoded.{Decoded}
+use Rattle.reader.specs.declared.Answer.the-variants as read
+use Rattle.reader.specs.Answers.{decodedOf}
 use Rattle.pobghine.specs.declared.Decision.{Decision}
 use Rattle.pobghine.specs.Deciding.{decisionOf}
 use Rattle.timed.specs.Call.{ifWhole, kindIn, readNumber, kindNumber}

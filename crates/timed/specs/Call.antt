@@ -3,9 +3,9 @@ use mathlib.Core.List.{List}
 use Prim.Native.Nat.{ℕ}
 use Rattle.zone.specs.declared.Constraint.{Constraint}
 use Rattle.layout.specs.Reading.{readOf}
-use Rattle.codec.specs.declared.Answer.{Answer}
-use Rattle.codec.specs.declared.Answer.the-variants as read
-use Rattle.codec.specs.Answers.{decodedOf}
+use Rattle.reader.specs.declared.Answer.{Answer}
+use Rattle.reader.specs.declared.Answer.the-variants as read
+use Rattle.reader.specs.Answers.{decodedOf}
 use Rattle.pobghine.specs.declared.Decision.{Decision}
 use Rattle.pobghine.specs.declared.Decision.the-variants as decided
 use Rattle.pobghine.specs.Deciding.{decisionOf}

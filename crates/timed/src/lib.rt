@@ -4,8 +4,8 @@ ghost use Rattle.zone.specs.Zone.{allows, constrained, kept};
 ghost use Rattle.zone.specs.Array.{zoneIn, laid};
 ghost use Rattle.zone.specs.Uses.{Constrains};
 ghost use Rattle.timed.specs.Call.{passed, readNumber, kindNumber};
-use codec::Answer;
 use pobghine::Decision;
+use reader::Answer;
 use zone::Constraint;
 
 // `zone::constrain`, with the constraint in parts: a struct would be passed in memory.

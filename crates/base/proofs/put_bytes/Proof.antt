@@ -9,7 +9,7 @@ use Rattle.base.proofs.put_bytes.Statement.{statement}
 use Rattle.base.proofs.put_bytes.Tie as tie
 
 abbrev Inv-loop : tie.InvT-loop
-Inv-loop out₀ at bytes p₀ i₀ out p i = Turn itself (length bytes) bytes out₀ at out p i
+Inv-loop out₀ at bytes p₀ i₀ out p i = Turn itself (length bytes) bytes (length bytes) out₀ at out p i
 
 abbrev μ-loop : tie.MeasureT-loop
 μ-loop out₀ at bytes p₀ i₀ out p i = length bytes - i
@@ -22,7 +22,7 @@ put-bytes-spec =
     μ-loop
     (λ c.
     let bytes = c .before .before .args .bytes .now in
-    turns-begin (rw (take-length bytes, each-itself bytes) (c .before .before .pre)))
+    turns-begin (omega arith) (rw (take-length bytes, each-itself bytes) (c .before .before .pre)))
     (λ c. omega arith)
     (λ c κs. turn-room (c .before .before .before .loop .inv) 0 (omega arith))
     (λ c. omega arith)

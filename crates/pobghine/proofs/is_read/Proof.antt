@@ -3,7 +3,7 @@ use mathlib.Core.Path.{sym, ap, _∙_}
 use lib.Seq.{length-take-le}
 use borrow.Author.Needs.{needs}
 use Rattle.layout.specs.Reading.{readOf}
-use Rattle.codec.specs.Answers.{decodedOf}
+use Rattle.reader.specs.Answers.{decodedOf}
 use Rattle.pobghine.proofs.Judged.{judged-whole, judged-refused}
 use Rattle.pobghine.proofs.Outcomes.{fits, front}
 use Rattle.pobghine.proofs.is_read.Statement.{statement}

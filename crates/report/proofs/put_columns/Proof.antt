@@ -10,13 +10,13 @@ use Rattle.report.proofs.put_columns.Statement.{statement}
 use Rattle.report.proofs.put_columns.Tie as tie
 
 abbrev Inv-loop : tie.InvT-loop
-Inv-loop out₀ at columns p₀ i₀ t6 out p i = Turn (field " ") (length columns) columns out₀ at out p i
+Inv-loop out₀ at columns p₀ i₀ t6 out p i = Turn (field " ") (length columns) columns (length columns) out₀ at out p i
 
 abbrev μ-loop : tie.MeasureT-loop
 μ-loop out₀ at columns p₀ i₀ t6 out p i = length columns - i
 
 loop-holds : tie.Need-loop-holds Inv-loop μ-loop
-loop-holds c = turns-begin (rw (take-length (c .before .before .args .columns .now)) (c .before .before .pre))
+loop-holds c = turns-begin (omega arith) (rw (take-length (c .before .before .args .columns .now)) (c .before .before .pre))
 
 put-field-requires : tie.Need-put-field-requires Inv-loop μ-loop
 put-field-requires c κs = turn-room (c .before .before .before .before .loop .inv) 0 (omega arith)

@@ -1,0 +1,15 @@
+-- `commands::last_size` meets its contract. Assumes nothing.
+use borrow.Author.Needs.{needs}
+use borrow.Author.Tests.{eq-eqb, ne-eqb}
+use Rattle.commands.proofs.last_size.Statement.{statement}
+use Rattle.commands.proofs.last_size.Tie as tie
+
+pub last-size-spec : {M : Type 1} → statement M
+last-size-spec =
+    tie.close
+    (tie.spec
+    (λ c. rw (eq-eqb _ _ (c .if1 .taken)))
+    (λ c. search needs)
+    (λ c. search needs)
+    (λ c. search needs)
+    (λ c. rw (ne-eqb _ _ (c .before .if1 .left))))
