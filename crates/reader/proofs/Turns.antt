@@ -1,14 +1,14 @@
 -- The loop that takes commands one by one: what holds between two of them, and what each way out gives. Assumes nothing.
 use mathlib.Core.Path.{_≡_, refl, sym, ap, _∙_}
 use mathlib.Core.Logic.{_≢_}
-use mathlib.Core.Bool.{Bool, true, false}
+use mathlib.Core.Bool.{Bool, true, false, cond, not}
 use mathlib.Core.List.{List}
 use Prim.Native.Nat.{ℕ, zero, suc, _+_, _-_, _≤_, _<_}
 use native.Mathlib.Numerals.{sub-one}
 use native.Mathlib.Omega.{arith}
 use lib.ListN.{length}
 use lib.Dec.{eqb}
-use borrow.Author.Tests.{eq-eqb, ne-eqb}
+use borrow.Author.Tests.{eq-eqb, ne-eqb, not-false}
 use Rattle.layout.specs.Sound.{Sound}
 use Rattle.job.specs.declared.Expression.{Expression}
 use Rattle.job.specs.declared.Job.{Job}
@@ -146,3 +146,8 @@ module _ {cur : Cursor} {job : Job} {e : Expression} {x : Addition} {j : Job} {y
 
     pub gone-on : {l : Job} {w : Expression} → cur .«in_query» ≡ new .«in_query» → l ≡ j → w ≡ y → Grown cur job e x new l w ts
     gone-on q r o = record { same = rw (o, r, ← q) (h .same); beside = h .beside ∙ ap tablesIn (sym r) }
+
+-- `differ` says no
+pub not-differ : (a : Bool) {b r : Bool} → r ≡ cond a (not b) b → r ≡ false → a ≡ b
+not-differ true is f = sym (not-false _ (sym is ∙ f))
+not-differ false is f = sym f ∙ is

@@ -1,6 +1,6 @@
 // Job bytes: reading them into a record, command after command.
 ghost use mathlib.Core.Path.{_≡_};
-ghost use mathlib.Core.Bool.{false};
+ghost use mathlib.Core.Bool.{cond, not};
 ghost use Prim.Native.Nat.{_<_};
 ghost use lib.ListN.{length, getD};
 ghost use Rattle.layout.specs.Reading.{taken, stepOf, readOf};
@@ -147,7 +147,7 @@ fn passed_on(took: Took) -> Decoded
 
 // Whether the query has begun by one of two commands, and not by the other.
 fn differ(a: bool, b: bool) -> bool
-    ensures { λ r. ⌜ (r ≡ false → a ≡ b) ⌝ }
+    ensures { λ r. ⌜ r ≡ cond a (not b) b ⌝ }
 {
     if a { !b } else { b }
 }

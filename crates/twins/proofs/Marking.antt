@@ -1,8 +1,9 @@
 -- Marks, one column after the other, and one clause of a condition after the other. Assumes nothing.
-use mathlib.Core.Path.{_≡_, refl, sym, _∙_}
+use mathlib.Core.Path.{_≡_, refl, sym, ap, _∙_}
 use mathlib.Core.Bool.{Bool, true, false, cond, _||_, or-assoc, or-false}
 use mathlib.Core.List.{List}
 use mathlib.Core.Option.{Option, none, some}
+use mathlib.Core.Logic.{_⊎_, inl, inr}
 use Prim.Native.Nat.{ℕ, suc, _+_, _<_, _≤_}
 use native.Mathlib.Omega.{arith}
 use native.Mathlib.Numerals.{add-one}
@@ -22,7 +23,7 @@ use Rattle.twins.specs.Pairs.{ifDiffer, pairsOf}
 use Rattle.conditions.specs.Records.{conditionOf}
 use Rattle.conditions.specs.Uses.{Meeting}
 use Rattle.conditions.proofs.Conditions.{clauseAt}
-use Rattle.conditions.proofs.Meeting.{no-rows, rows-without, rows-with, no-clause-left}
+use Rattle.conditions.proofs.Meeting.{room-left, no-rows, rows-without, rows-with, no-clause-left}
 use Rattle.twins.specs.Marks.{marked}
 use Rattle.twins.specs.Uses.{Marks}
 
@@ -85,13 +86,13 @@ module _ {n : ℕ} {z out : List ℕ} {p : Expression} (u : Meeting n z p out) (
   -- r and e are what `meet` answers and leaves
   module _ (h : q < p .size) (to : List ℕ) (full : length to ≡ 1089) {r : Bool} {e : List ℕ}
       (told : r ≡ isSome (imposedAll (zoneIn (n + 1) z) (clauseOf (clauseAt p q)))) (left : e ≡ laid to (reached (zoneIn (n + 1) z) (clauseOf (clauseAt p q)))) where
-    pub no-marks : r ≡ false → {new : List Bool} → new ≡ marks → markedFrom (q + 1) (zoneIn (n + 1) z) (conditionOf p) w f new ≡ all
+    no-marks : r ≡ false → {new : List Bool} → new ≡ marks → markedFrom (q + 1) (zoneIn (n + 1) z) (conditionOf p) w f new ≡ all
     no-marks no-row is = rw is (
         marked-cong (λ c. isSome (byClause (zoneIn (n + 1) z) (drop (q + 1) (conditionOf p)) (f c)))
         (λ c. isSome (byClause (zoneIn (n + 1) z) (drop q (conditionOf p)) (f c))) marks w
         (λ c l. rw (no-rows u four h to full told left (f c) refl no-row)) ∙ rest)
 
-    pub more-marks : w ≤ length marks → r ≡ true → {new : List Bool} → new ≡ marked w (λ c. isSome (f c (zoneIn (n + 1) e))) marks
+    more-marks : w ≤ length marks → r ≡ true → {new : List Bool} → new ≡ marked w (λ c. isSome (f c (zoneIn (n + 1) e))) marks
         → markedFrom (q + 1) (zoneIn (n + 1) z) (conditionOf p) w f new ≡ all
     more-marks few some-row is = rw is (
         marked-marked later here marks w few
@@ -108,6 +109,14 @@ module _ {n : ℕ} {z out : List ℕ} {p : Expression} (u : Meeting n z p out) (
             → (isSome o || later c) ≡ isSome (byClause (zoneIn (n + 1) z) (drop q (conditionOf p)) (f c))
         go c none k = rw (rows-without u four h to full told left (f c) refl some-row k)
         go c (some y) k = rw (rows-with u four h to full told left (f c) refl some-row k)
+
+    -- a turn of the loop over the clauses
+    pub next-marks : w ≤ 16 → length marks ≡ 16 → {new : List Bool}
+        → ((r ≡ true) × (new ≡ marked w (λ c. isSome (f c (zoneIn (n + 1) e))) marks)) ⊎ ((r ≡ false) × (new ≡ marks))
+        → (length new ≡ 16) × (length e ≡ 1089) × (markedFrom (q + 1) (zoneIn (n + 1) z) (conditionOf p) w f new ≡ all)
+    next-marks few sixteen (inl (some-row, is)) =
+        (ap length is ∙ marked-length _ _ _ ∙ sixteen, room-left u four h to full told left, more-marks (omega (arith, sixteen)) some-row is)
+    next-marks few sixteen (inr (no-row, is)) = (ap length is ∙ sixteen, room-left u four h to full told left, no-marks no-row is)
 
   -- no clause is left
   pub all-marks : p .size ≤ q → marks ≡ all

@@ -8,7 +8,6 @@ use lib.Signed.{leZ}
 use borrow.Author.Needs.{needs}
 use Rattle.base.specs.Lists.{pairwise}
 use Rattle.base.proofs.Turns.{pairs-fail, pairs-more, pairs-done}
-use Rattle.words.proofs.Stored.{stored}
 use Rattle.listform.proofs.Tests.{more-not, not-more}
 use Rattle.listform.proofs.ordered.Statement.{statement}
 use Rattle.listform.proofs.ordered.Tie as tie
@@ -31,19 +30,15 @@ ordered-spec =
     (λ c. omega arith)
     (λ c. omega arith)
     (λ c.
-    let a = c .before .before .before .before .before .args in
-    let l = c .before .before .before .before .loop in
-    let x = getD (a .lo .now) (l .i) (pos 0) in
-    let y = getD (a .hi .now) (l .i) (pos 0) in
-    let t = rw (stored y (c .before .before .if12 .given), stored x (c .before .if13 .given)) at (c .if1 .taken) in
-    pairs-fail leZ (pos 0) (pos 0) _ _ (c .before .before .before .before .before .pre) (l .i) (l .inv .1) (c .before .before .before .loop-test .taken) (more-not x y t))
+    let s = c .before .before .before .before in
+    pairs-fail leZ (pos 0) (pos 0) _ _ (s .before .pre) (s .loop .i) (s .loop .inv .1) (c .before .before .before .loop-test .taken)
+    (more-not (getD (s .before .args .lo .now) (s .loop .i) (pos 0)) (getD (s .before .args .hi .now) (s .loop .i) (pos 0)) (c .before .before .if12 .given) (c .before .if13 .given) (c .if1 .taken)))
     (λ c. omega arith)
     (λ c. omega arith)
     (λ c.
-    let a = c .before .before .before .before .before .args in
-    let l = c .before .before .before .before .loop in
-    let x = getD (a .lo .now) (l .i) (pos 0) in
-    let y = getD (a .hi .now) (l .i) (pos 0) in
-    let t = rw (stored y (c .before .before .if12 .given), stored x (c .before .if13 .given)) at (c .if1 .left) in
-    (search needs, pairs-more leZ (pos 0) (pos 0) _ _ (c .before .before .before .before .before .pre) (l .i) (l .inv .1) (c .before .before .before .loop-test .taken) (not-more x y t)))
+    let s = c .before .before .before .before in (
+      search needs,
+      pairs-more leZ (pos 0) (pos 0) _ _ (s .before .pre) (s .loop .i) (s .loop .inv .1) (c .before .before .before .loop-test .taken)
+          (not-more (getD (s .before .args .lo .now) (s .loop .i) (pos 0)) (getD (s .before .args .hi .now) (s .loop .i) (pos 0)) (c .before .before .if12 .given) (c .before .if13 .given) (c .if1 .left)),
+    ))
     (λ c. pairs-done leZ (pos 0) (pos 0) _ _ (c .before .before .pre) (c .before .loop .i) (c .before .loop .inv .1) (c .loop-test .left)))

@@ -1,6 +1,5 @@
 -- `reader::differ` meets its contract. Assumes nothing.
-use mathlib.Core.Path.{sym, _∙_}
-use borrow.Author.Tests.{not-false}
+use borrow.Author.Needs.{needs}
 use Rattle.reader.proofs.differ.Statement.{statement}
 use Rattle.reader.proofs.differ.Tie as tie
 
@@ -8,5 +7,5 @@ pub differ-spec : {M : Type 1} → statement M
 differ-spec =
     tie.close
     (tie.spec
-    (λ c. λ e. c .if1 .taken ∙ sym (not-false _ e))
-    (λ c. λ e. c .if1 .left ∙ sym e))
+    (λ c. search needs)
+    (λ c. search needs))

@@ -12,7 +12,7 @@ use Rattle.commands.specs.declared.Addition.the-variants.{Table as TableAdded, 
 use Rattle.commands.specs.Uses.{tablesIn, Open, Fits}
 use Rattle.commands.proofs.Looks.{table-more}
 use Rattle.reader.proofs.Steps.{room-for}
-use Rattle.reader.proofs.Turns.{Midway, begun, broken-off, again, finished, none-left, not-started, Grown, grew, turned-over, gone-on}
+use Rattle.reader.proofs.Turns.{Midway, begun, broken-off, again, finished, none-left, not-started, Grown, grew, turned-over, gone-on, not-differ}
 use Rattle.reader.proofs.read.Statement.{statement}
 use Rattle.reader.proofs.read.Tie as tie
 
@@ -65,7 +65,7 @@ joined : (c : tie.Joined2 Inv-loop μ-loop)
     (c .if2 .job) (c .if2 .e) (c .before .before .match2 .tables)
 joined c =
     ⊎-elim (λ w. turned-over (added (c .before .before)) (w .1 .ensures) (w .2 .ensures) (w .3) (w .4))
-    (λ w. gone-on (added (c .before .before)) (c .before .differ .ensures (w .0 .left)) (w .1) (w .2)) (c .if2 .came)
+    (λ w. gone-on (added (c .before .before)) (not-differ _ (c .before .differ .ensures) (w .0 .left)) (w .1) (w .2)) (c .if2 .came)
 
 pub read-spec : {M : Type 1} → statement M
 read-spec =
