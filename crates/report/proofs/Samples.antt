@@ -19,7 +19,7 @@ largest : digits 18446744073709551615 ≡ ascii "18446744073709551615"
 unfolding digits
 largest = refl
 
--- so much room is needed
+-- the longest text that numbers of a byte give: the room that `report::text` is lent
 longest : length (verdictText 255 (replicate 16 255)) ≡ 81
 unfolding verdictText digits
 longest = refl
