@@ -61,7 +61,8 @@ module _ {c : Clause} {i count : ℕ} {ways : List Constraint} (s : Filling c i 
       pub fill-two : p .two ≡ true → Filling c (i + 1) (set (set ways count (p .first)) (count + 1) (p .second)) (count + 1 + 1)
       fill-two two =
           let old = waysOf (take i c) in
-          let e : waysOf (take (i + 1) c) ≡ (old ++ p .first ∷ []) ++ p .second ∷ [] = more-ways ∙ rw two (sym (append-assoc old (p .first ∷ []) (p .second ∷ []))) in
+          let e : waysOf (take (i + 1) c) ≡ (old ++ p .first ∷ []) ++ p .second ∷ [] =
+          more-ways ∙ rw two (sym (append-assoc old (p .first ∷ []) (p .second ∷ []))) in
           let first : set ways count (p .first) ≡ padded 12 free (old ++ p .first ∷ []) =
           rw (s .ways-are, s .count-is) (padded-more 12 free old (p .first) (omega (arith, s .room, s .count-is))) in
           let size : count + 1 ≡ length (old ++ p .first ∷ []) = ap (λ (n : ℕ). n + 1) (s .count-is) ∙ sym (length-append old (p .first ∷ [])) in

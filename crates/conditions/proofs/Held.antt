@@ -80,7 +80,8 @@ module _ (n : ℕ) (k : Condition) (few : length k ≤ 4) (short : (c : model.Cl
       subst (WaysFit (n + 1)) e (record-fits ws m)
 
 -- ---- an expression's clauses
-sizes : (n : ℕ) (cs : List Clause) → ((q : ℕ) → q < n → getD cs q (record { size = 0; comparisons = [] }) .size ≤ 6) → (c : Clause) → c ∈ take n cs → c .size ≤ 6
+sizes : (n : ℕ) (cs : List Clause) → ((q : ℕ) → q < n → getD cs q (record { size = 0; comparisons = [] }) .size ≤ 6)
+    → (c : Clause) → c ∈ take n cs → c .size ≤ 6
 sizes zero cs h c m = absurd (List·Memᴰ·not-nil m)
 sizes (suc n) [] h c m = absurd (List·Memᴰ·not-nil m)
 sizes (suc n) (x ∷ cs) h c (List·Memᴰ·head e) = rw e (h 0 (omega arith))

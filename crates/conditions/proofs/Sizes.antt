@@ -10,6 +10,7 @@ use denote.Laws.{Is}
 use denote.Shadow.{shadow}
 use Rattle.conditions.specs.declared.Ways.{Ways}
 use Rattle.conditions.specs.declared.Choices.{Choices}
+use Rattle.conditions.specs.Records.{waysAt}
 use Rattle.conditions.proofs.Ways as ways
 use Rattle.conditions.proofs.Choices as choices
 
@@ -19,7 +20,7 @@ noWays = record { size = 0; ways = [] }
 
 pub record SizedChoices (k : Choices) : Type 0 where
   pub clauses : length (k .clauses) ≡ 4
-  pub ways : (q : ℕ) → q < 4 → length (getD (k .clauses) q noWays .ways) ≡ 12
+  pub ways : (q : ℕ) → q < 4 → length (waysAt k q .ways) ≡ 12
 
 pub twelve : (w : Ways) (vs : List Val) → Is ways.the-row w vs → length (w .ways) ≡ 12
 twelve w vs h = sym (length-map (w .ways) _) ∙ h .1 .1 .1 .0 .1 .0 .1

@@ -16,7 +16,7 @@ use Rattle.zone.specs.Uses.{InArray, Tightens}
 use Rattle.solver.specs.Solver.{comparisonFits}
 use Rattle.conditions.specs.declared.Ways.{Ways}
 use Rattle.conditions.specs.declared.Choices.{Choices}
-use Rattle.conditions.specs.Records.{conditionOf}
+use Rattle.conditions.specs.Records.{wayAt, waysAt, conditionOf}
 
 -- every comparison of a condition fits n columns
 abbrev pub conditionFits : ℕ → Condition → Bool
@@ -35,10 +35,10 @@ pub record Fits (n : ℕ) (c : Constraint) : Type 0 where
 
 pub record WaysFit (n : ℕ) (w : Ways) : Type 0 where
   pub small : w .size ≤ 12
-  pub each : (i : ℕ) → i < w .size → Fits n (getD (w .ways) i (record { left = 0; right = 0; most = 0 }))
+  pub each : (i : ℕ) → i < w .size → Fits n (wayAt w i)
 
 abbrev pub ChoicesFit : ℕ → Choices → Type 0
-ChoicesFit n k = (q : ℕ) → q < 4 → WaysFit n (getD (k .clauses) q (record { size = 0; ways = [] }))
+ChoicesFit n k = (q : ℕ) → q < 4 → WaysFit n (waysAt k q)
 
 -- a zone with a constraint that some row of it obeys, and ways that are looked at after it
 pub record LooksAfter (n : ℕ) (d : List ℕ) (c : Constraint) (w : Ways) : Type 0 where
@@ -49,11 +49,12 @@ pub record LooksAhead (n : ℕ) (d : List ℕ) (c : Constraint) (k : Choices) : 
   pub first : Tightens n d c
   pub choices : ChoicesFit n k
 
--- a zone, a constraint between its nodes, choices, and room for a zone
-pub record Chooses (n : ℕ) (from to : List ℕ) (c : Constraint) (k : Choices) : Type 0 where
+-- a zone, room for a zone, way i of some between its nodes, and choices
+pub record Chooses (n : ℕ) (from to : List ℕ) (w : Ways) (i : ℕ) (k : Choices) : Type 0 where
   pub in-array : InArray n from
   pub full : length to ≡ 1089
-  pub fits : Fits n c
+  pub ways : WaysFit n w
+  pub more : i < w .size
   pub choices : ChoicesFit n k
 
 -- a zone of n columns, and a clause of comparisons of these

@@ -1,7 +1,7 @@
 // Conditions and the rows of a zone: those that meet a clause, those that break one, and looks ahead at clauses still to be broken. A zone lies in a
 // lent array, as in crate zone.
 ghost use mathlib.Core.Path.{_≡_};
-ghost use Prim.Native.Nat.{_+_, _≤_};
+ghost use Prim.Native.Nat.{_+_, _≤_, _<_};
 ghost use lib.ListN.{drop};
 ghost use Rattle.base.specs.Lists.{allOf};
 ghost use Rattle.base.specs.Options.{isSome};
@@ -12,7 +12,7 @@ ghost use Rattle.solver.specs.Solver.{imposedAll};
 ghost use Rattle.solver.specs.Lists.{reached};
 ghost use Rattle.conditions.specs.Breaking.{free, waysOf, choicesOf, breakable, chosen};
 ghost use Rattle.conditions.specs.Meeting.{met};
-ghost use Rattle.conditions.specs.Records.{waysIn, waysRecord, choicesIn, choicesRecord, conditionOf, laidIf};
+ghost use Rattle.conditions.specs.Records.{waysIn, waysRecord, waysAt, wayAt, choicesIn, choicesRecord, conditionOf, laidIf};
 ghost use Rattle.conditions.specs.Uses.{Small, LooksAfter, LooksAhead, Chooses, ImposesClause, MeetsClause, Meeting};
 use job::Clause;
 use job::Expression;
@@ -124,11 +124,9 @@ fn breakable_after(d: &[u64; zone::SIZE], n: usize, c: Constraint, w: Ways) -> b
     requires { ⌜ LooksAfter n (now d) c w ⌝ }
     ensures { λ r. ⌜ r ≡ breakable (tightened (zoneIn n (now (d .entry))) c) (waysIn w) ⌝ }
 {
-    let size = w.size;
-    let ways = w.ways;
     let mut i = 0;
-    while i < size {
-        if zone::allows_after(d, n, c, ways[i]) {
+    while i < w.size {
+        if zone::allows_after(d, n, c, w.ways[i]) {
             return true;
         }
         i += 1;
@@ -141,10 +139,9 @@ fn open_after(d: &[u64; zone::SIZE], n: usize, c: Constraint, k: Choices, rest: 
     requires { ⌜ LooksAhead n (now d) c k ⌝ }
     ensures { λ r. ⌜ r ≡ allOf (breakable (tightened (zoneIn n (now (d .entry))) c)) (drop rest (choicesIn k)) ⌝ }
 {
-    let clauses = k.clauses;
     let mut q = rest;
     while q < Job::CLAUSES {
-        if !breakable_after(d, n, c, clauses[q]) {
+        if !breakable_after(d, n, c, k.clauses[q]) {
             return false;
         }
         q += 1;
@@ -152,20 +149,30 @@ fn open_after(d: &[u64; zone::SIZE], n: usize, c: Constraint, k: Choices, rest: 
     true
 }
 
-// Lays the rows of a zone that obey the constraint too into another array, unless there are none, or some clause from `rest` on can't be broken
+// The ways of clause q.
+pub fn ways_at(k: Choices, q: usize) -> Ways
+    requires { ⌜ q < 4 ⌝ }
+    ensures { λ r. ⌜ r ≡ waysAt k q ⌝ }
+{
+    k.clauses[q]
+}
+
+// Lays the rows of a zone that break a clause in its way i into another array, unless there are none, or some clause from `rest` on can't be broken
 // then. Nothing is copied before that is known.
 pub fn choose(
     from: &[u64; zone::SIZE],
     to: &mut [u64; zone::SIZE],
     n: usize,
-    c: Constraint,
+    w: Ways,
+    i: usize,
     k: Choices,
     rest: usize,
 ) -> bool
-    requires { ⌜ Chooses n (now from) (now to) c k ⌝ }
-    ensures answer { λ r. ⌜ r ≡ isSome (chosen (zoneIn n (now (from .entry))) c (drop rest (choicesIn k))) ⌝ }
-    ensures zone { λ _. ⌜ now (to .exit) ≡ laidIf (now (to .entry)) (chosen (zoneIn n (now (from .entry))) c (drop rest (choicesIn k))) ⌝ }
+    requires { ⌜ Chooses n (now from) (now to) w i k ⌝ }
+    ensures answer { λ r. ⌜ r ≡ isSome (chosen (zoneIn n (now (from .entry))) (wayAt w i) (drop rest (choicesIn k))) ⌝ }
+    ensures zone { λ _. ⌜ now (to .exit) ≡ laidIf (now (to .entry)) (chosen (zoneIn n (now (from .entry))) (wayAt w i) (drop rest (choicesIn k))) ⌝ }
 {
+    let c = w.ways[i];
     if !zone::allows(from, n, c) {
         return false;
     }

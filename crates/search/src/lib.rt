@@ -7,6 +7,9 @@ ghost use Rattle.conditions.specs.Records.{choicesIn, conditionOf, laidIf};
 ghost use Rattle.search.specs.Search.{outside};
 ghost use Rattle.search.specs.Uses.{Searches};
 use conditions::Choices;
+use conditions::choose;
+use conditions::meet;
+use conditions::ways_at;
 use job::Expression;
 
 // Some rows of a zone that meet the condition and break every clause of another, or none.
@@ -24,11 +27,10 @@ pub fn outside(
     let n = columns + 1;
     let size = p.size;
     let clauses = p.clauses;
-    let choices = k.clauses;
-    let one = choices[0];
-    let two = choices[1];
-    let three = choices[2];
-    let four = choices[3];
+    let one = ways_at(k, 0);
+    let two = ways_at(k, 1);
+    let three = ways_at(k, 2);
+    let four = ways_at(k, 3);
     let mut x = [0u64; zone::SIZE];
     let mut y = [0u64; zone::SIZE];
     let mut v = [0u64; zone::SIZE];
@@ -36,26 +38,19 @@ pub fn outside(
     let mut found = false;
     let mut q = 0;
     'clause: while q < size {
-        if conditions::meet(z, columns, clauses[q], &mut x) {
+        if meet(z, columns, clauses[q], &mut x) {
             let mut a = 0;
             'one: while a < one.size {
-                if conditions::choose(&x, &mut y, n, one.ways[a], k, 1) {
+                if choose(&x, &mut y, n, one, a, k, 1) {
                     let mut b = 0;
                     'two: while b < two.size {
-                        if conditions::choose(&y, &mut v, n, two.ways[b], k, 2) {
+                        if choose(&y, &mut v, n, two, b, k, 2) {
                             let mut c = 0;
                             'three: while c < three.size {
-                                if conditions::choose(&v, &mut w, n, three.ways[c], k, 3) {
+                                if choose(&v, &mut w, n, three, c, k, 3) {
                                     let mut d = 0;
                                     'four: while d < four.size {
-                                        if conditions::choose(
-                                            &w,
-                                            &mut *out,
-                                            n,
-                                            four.ways[d],
-                                            k,
-                                            4,
-                                        ) {
+                                        if choose(&w, &mut *out, n, four, d, k, 4) {
                                             found = true;
                                             break 'clause;
                                         }

@@ -11,7 +11,8 @@ use Rattle.conditions.proofs.impose_clause.Statement.{statement}
 use Rattle.conditions.proofs.impose_clause.Tie as tie
 
 abbrev Inv-loop : tie.InvT-loop
-Inv-loop d₀ columns size comparisons i₀ d i = (i ≤ size) × (size ≤ 6) × (size ≤ length comparisons) × Progress columns (map comparisonOf (take size comparisons)) d₀ i d
+Inv-loop d₀ columns size comparisons i₀ d i =
+    (i ≤ size) × (size ≤ 6) × (size ≤ length comparisons) × Progress columns (map comparisonOf (take size comparisons)) d₀ i d
 
 abbrev μ-loop : tie.MeasureT-loop
 μ-loop d₀ columns size comparisons i₀ d i = size - i
@@ -22,7 +23,9 @@ impose-clause-spec =
     (tie.spec
     Inv-loop
     μ-loop
-    (λ c. (omega arith, c .before .pre .small, omega (arith, six (c .before .args .c) _ (c .before .good .1 .1 .0), c .before .pre .small), at-start _ _ _ (c .before .pre .in-array)))
+    (λ c.
+    let s = c .before in
+    (omega arith, s .pre .small, omega (arith, six (s .args .c) _ (s .good .1 .1 .0), s .pre .small), at-start _ _ _ (s .pre .in-array)))
     (λ c. omega arith)
     (λ c. omega arith)
     (λ c κs.

@@ -17,4 +17,5 @@ meet-spec =
     record { in-array = copy-found (u .imposes .in-array) _ (u .full) (c .before .copy .ensures) .in-array; small = u .imposes .small; fit = u .imposes .fit })
     (λ c.
     let s = c .before .before .before .before in
-    on-copy _ (s .pre .imposes .in-array) (clauseOf (s .args .c)) (s .pre .imposes .fit) _ (s .pre .full) (c .before .before .copy .ensures) (c .impose-clause .ensures)))
+    on-copy _ (s .pre .imposes .in-array) (clauseOf (s .args .c)) (s .pre .imposes .fit) _ (s .pre .full) (c .before .before .copy .ensures)
+    (c .impose-clause .ensures)))

@@ -13,7 +13,8 @@ use Rattle.conditions.proofs.ways_of.Statement.{statement}
 use Rattle.conditions.proofs.ways_of.Tie as tie
 
 abbrev Inv-loop : tie.InvT-loop
-Inv-loop size comparisons ways₀ count₀ i₀ ways count i = (i ≤ size) × (size ≤ 6) × (size ≤ length comparisons) × Filling (map comparisonOf (take size comparisons)) i ways count
+Inv-loop size comparisons ways₀ count₀ i₀ ways count i =
+    (i ≤ size) × (size ≤ 6) × (size ≤ length comparisons) × Filling (map comparisonOf (take size comparisons)) i ways count
 
 abbrev μ-loop : tie.MeasureT-loop
 μ-loop size comparisons ways₀ count₀ i₀ ways count i = size - i
@@ -25,7 +26,9 @@ ways-of-spec =
     Inv-loop
     μ-loop
     (λ c κs. search needs)
-    (λ c. (omega arith, c .before .before .pre, omega (arith, six (c .before .before .args .c) _ (c .before .before .good .0), c .before .before .pre), fill-start _ (c .free .ensures)))
+    (λ c.
+    let s = c .before .before in
+    (omega arith, s .pre, omega (arith, six (s .args .c) _ (s .good .0), s .pre), fill-start _ (c .free .ensures)))
     (λ c. omega arith)
     (λ c. omega arith)
     (λ c κs. search needs)
@@ -40,7 +43,8 @@ ways-of-spec =
     (λ c.
     let s = c .before .before .before .before .before .before .before .before .before .before in
     let l = c .before .before .before .before .before .before .before .loop in
-    let next = comparison-next (s .args .c) (l .inv .2) (l .i) (c .before .before .before .before .before .before .loop-test .taken) (c .before .before .before .before .struct-told .given .1 .1 .1 .0 .1) in (
+    let next = comparison-next (s .args .c) (l .inv .2) (l .i) (c .before .before .before .before .before .before .loop-test .taken)
+    (c .before .before .before .before .struct-told .given .1 .1 .1 .0 .1) in (
       omega arith,
       l .inv .1,
       l .inv .2,
@@ -49,4 +53,6 @@ ways-of-spec =
           (λ w. rw (w .1, w .2) (fill-one (l .inv .3) next (c .before .before .before .negations .ensures) (omega arith) (w .0 .left)))
           (c .if1 .came),
     ))
-    (λ c. fill-end (c .before .loop .inv .3) (comparison-done (c .before .before .before .before .args .c) (c .before .loop .inv .2) (c .before .loop .i) (c .loop-test .left))))
+    (λ c.
+    let l = c .before .loop in
+    fill-end (l .inv .3) (comparison-done (c .before .before .before .before .args .c) (l .inv .2) (l .i) (c .loop-test .left))))
