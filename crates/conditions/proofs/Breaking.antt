@@ -1,4 +1,4 @@
--- Rows that break clauses: the ways are constraints between the nodes, a row breaks a clause where it obeys one of them, and what a choice leaves. Assumes nothing.
+-- Rows that break clauses: the ways are constraints between the nodes, a row breaks a clause where it obeys one, and what a choice leaves. Assumes nothing.
 use mathlib.Core.Path.{_≡_, refl, sym, subst, _∙_}
 use mathlib.Core.Logic.{_↔_, inl, inr, ⊎-elim}
 use mathlib.Core.Bool.{Bool, true, false, not, cond, and-true, _&&_}

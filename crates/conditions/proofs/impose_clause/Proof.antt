@@ -36,12 +36,17 @@ impose-clause-spec =
     (λ c.
     let s = c .before .before .before .before .before .before .before .before in
     let l = c .before .before .before .before .before .before .loop in
-    stops (l .inv .3) (comparison-next (s .args .c) (l .inv .2) (l .i) (c .before .before .before .before .before .loop-test .taken) (c .before .before .struct-told .given .1 .1 .1 .0 .1)) (c .before .impose-one .ensures) (c .if1 .taken))
+    let next = comparison-next (s .args .c) (l .inv .2) (l .i) (c .before .before .before .before .before .loop-test .taken)
+    (c .before .before .struct-told .given .1 .1 .1 .0 .1) in
+    stops (l .inv .3) next (c .before .impose-one .ensures) (c .if1 .taken))
     (λ c. omega arith)
     (λ c. omega arith)
     (λ c.
     let s = c .before .before .before .before .before .before .before .before in
     let l = c .before .before .before .before .before .before .loop in
-    let next = comparison-next (s .args .c) (l .inv .2) (l .i) (c .before .before .before .before .before .loop-test .taken) (c .before .before .struct-told .given .1 .1 .1 .0 .1) in
+    let next = comparison-next (s .args .c) (l .inv .2) (l .i) (c .before .before .before .before .before .loop-test .taken)
+    (c .before .before .struct-told .given .1 .1 .1 .0 .1) in
     (omega arith, l .inv .1, l .inv .2, goes-on (l .inv .3) next (c .before .impose-one .ensures) (s .pre .fit) (c .if1 .left)))
-    (λ c. at-end (c .before .loop .inv .3) (comparison-done (c .before .before .before .args .c) (c .before .loop .inv .2) (c .before .loop .i) (c .loop-test .left))))
+    (λ c.
+    let l = c .before .loop in
+    at-end (l .inv .3) (comparison-done (c .before .before .before .args .c) (l .inv .2) (l .i) (c .loop-test .left))))

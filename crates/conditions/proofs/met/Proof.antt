@@ -20,7 +20,8 @@ abbrev Inv-loop : tie.InvT-loop
 Inv-loop z columns out₀ size clauses y₀ q₀ out y q =
     (out ≡ out₀)
     × (length y ≡ 1089)
-    × (firstOf (drop q (map clauseOf (take size clauses))) (imposedAll (zoneIn (columns + 1) z)) ≡ met (zoneIn (columns + 1) z) (map clauseOf (take size clauses)))
+    × (firstOf (drop q (map clauseOf (take size clauses))) (imposedAll (zoneIn (columns + 1) z))
+    ≡ met (zoneIn (columns + 1) z) (map clauseOf (take size clauses)))
 
 abbrev μ-loop : tie.MeasureT-loop
 μ-loop z columns out₀ size clauses y₀ q₀ out y q = size - q
@@ -42,17 +43,23 @@ met-spec =
     loop-holds
     (λ c. omega (arith, c .before .before .before .pre .small .clauses))
     (λ c. let s = c .before .before .before in omega (arith, s .pre .small .clauses, clauses-sized s))
-    (λ c κs. let s = c .before .before .before .before .before in meet-asks (s .pre) (clauses-sized s) (c .before .before .loop-test .taken) _ (c .before .before .before .loop .inv .1))
+    (λ c κs.
+    let s = c .before .before .before .before .before in
+    meet-asks (s .pre) (clauses-sized s) (c .before .before .loop-test .taken) _ (c .before .before .before .loop .inv .1))
     (λ c. omega (arith, c .before .before .before .before .before .before .before .before .before .pre .in-array .small))
     (λ c κs.
     let s = c .before .before .before .before .before .before .before .before .before in
-    let f = rows-found (s .pre) (clauses-sized s) (c .before .before .before .before .before .before .loop-test .taken) _ (c .before .before .before .before .before .before .before .loop .inv .1) (c .before .before .before .meet .ensures .0) (c .before .before .before .meet .ensures .1) (c .before .before .if1 .taken) in
-    record { from-full = f .in-array .full; to-full = ap length (c .before .before .before .before .before .before .before .loop .inv .0) ∙ s .pre .full; small = f .in-array .small })
+    let l = c .before .before .before .before .before .before .before .loop in
+    let (told, left) = c .before .before .before .meet .ensures in
+    let f = rows-found (s .pre) (clauses-sized s) (c .before .before .before .before .before .before .loop-test .taken) _ (l .inv .1) told left
+    (c .before .before .if1 .taken) in
+    record { from-full = f .in-array .full; to-full = ap length (l .inv .0) ∙ s .pre .full; small = f .in-array .small })
     (λ c.
     let s = c .before .before .before .before .before .before .before .before .before .before in
     let l = c .before .before .before .before .before .before .before .before .loop in
     let h = c .before .before .before .before .before .before .before .loop-test .taken in
-    let f = rows-found (s .pre) (clauses-sized s) h _ (l .inv .1) (c .before .before .before .before .meet .ensures .0) (c .before .before .before .before .meet .ensures .1) (c .before .before .before .if1 .taken) in
+    let (told, left) = c .before .before .before .before .meet .ensures in
+    let f = rows-found (s .pre) (clauses-sized s) h _ (l .inv .1) told left (c .before .before .before .if1 .taken) in
     ends-some _ (this-clause (s .pre) (clauses-sized s) _ _ (l .inv .2) h (f .is)) (rw (l .inv .0) at (c .copy .ensures)))
     (λ c. omega (arith, c .before .before .before .before .before .before .before .pre .small .clauses))
     (λ c. omega arith)
@@ -65,4 +72,7 @@ met-spec =
       room-left (s .pre) (clauses-sized s) h _ (l .inv .1) (m .0) (m .1),
       next-clause (s .pre) (clauses-sized s) _ _ (l .inv .2) h (rows-none (s .pre) (clauses-sized s) h _ (l .inv .1) (m .0) (m .1) (c .if1 .left)),
     ))
-    (λ c. let s = c .before .before .before in ends-none (no-clause (s .pre) (clauses-sized s) _ _ (c .before .loop .inv .2) (c .loop-test .left)) refl (c .before .loop .inv .0)))
+    (λ c.
+    let s = c .before .before .before in
+    let l = c .before .loop in
+    ends-none (no-clause (s .pre) (clauses-sized s) _ _ (l .inv .2) (c .loop-test .left)) refl (l .inv .0)))
