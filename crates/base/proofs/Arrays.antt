@@ -217,7 +217,7 @@ module _ {A : Type 0} where
     pub front-turn : {v : A} → n < all → v ≡ f n → Pass f 0 all (n + 1) xs (set ys n v)
     front-turn more same = rw zero-add at (pass-turn s more same)
 
-    pub front-part : all ≤ n → all ≤ length xs → ys ≡ tabulate all f ++ drop all xs
+    front-part : all ≤ n → all ≤ length xs → ys ≡ tabulate all f ++ drop all xs
     front-part past room = pass-end s past ∙ filled-front f all xs room
 
     pub front-end : all ≤ n → length xs ≡ all → ys ≡ tabulate all f
@@ -232,12 +232,6 @@ module _ {A : Type 0} where
   pub front-padded : (d : A) {f : ℕ → A} {m all n : ℕ} {ys : List A} → Pass f 0 all n (replicate m d) ys → all ≤ n → all ≤ m → ys ≡ padded m d (tabulate all f)
   front-padded d {f} {m} {all} s past room =
       front-part s past (omega (arith, length-replicate m d)) ∙ rw (tabulate-length all f, drop-replicate all m d)
-
-  -- with another list's elements
-  pub front-copy : (d : A) (from : List A) {n : ℕ} {xs ys : List A} → Pass (λ i. getD from i d) 0 (length from) n xs ys → length from ≤ n
-      → length from ≤ length xs → ys ≡ from ++ drop (length from) xs
-  front-copy d from s past room =
-      front-part s past room ∙ rw (← tabulated from (λ i. getD from i d) (length from) d refl (λ i h. refl))
 
 -- with the images of another list's elements
 pub front-map : {A B : Type 0} (g : A → B) (d : A) (from : List A) {n : ℕ} {xs ys : List B} → Pass (λ i. g (getD from i d)) 0 (length from) n xs ys
