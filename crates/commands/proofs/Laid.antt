@@ -13,13 +13,15 @@ use Rattle.base.proofs.Lists.{map-snoc, length-last, concat-more, concat-last}
 use Rattle.base.proofs.Arrays.{getD-padded, set-padded, padded-more, padded-same}
 use Rattle.model.specs.Tables as model
 use Rattle.model.specs.Tables.{Bounds, Table, columnsOf}
+use Rattle.job.specs.declared.Condition.{Condition}
 use Rattle.job.specs.declared.Expression.{Expression}
 use Rattle.job.specs.declared.Job.{Job}
 use Rattle.job.specs.Record.{noColumn, noComparison, noClause}
-use Rattle.job.specs.Meaning.{columnRecord, columnRecords, comparisonRecord, clauseRecord, expressionRecord, recordOf}
+use Rattle.job.specs.Meaning.{columnRecord, columnRecords, comparisonRecord, clauseRecord, conditionRecord, expressionRecord, recordOf}
 use Rattle.job.proofs.Meaning.{columns-length}
 use Rattle.layout.specs.Reading.{withUsed, withOutput, withCondition, withTables, withCurrent}
-use Rattle.commands.specs.Uses.{currentIn, placed, tableMore, columnMore, usedMore, outputMore, clauseMore, withComparison, comparisonMore, lastClause}
+use Rattle.commands.specs.Uses.{currentIn, placed, tableMore, columnMore, usedMore, outputMore, conditioned}
+use Rattle.commands.specs.Uses.{clauseMore, withComparison, comparisonMore, lastClause}
 
 -- ---- the last of some lists
 module _ {A B : Type 0} (f : List A → B) where
@@ -62,7 +64,8 @@ unfolding recordOf
 table-laid j = rw (length-append (j .tables) ([] ∷ []), concat-more (j .tables), columns-none 0 (j .tables))
 
 columns-more : (ts : List Table) (b : Bounds) (n : ℕ) → suc n ≡ length ts → length (columnsOf ts) < 16
-    → set (padded 16 noColumn (columnRecords 0 ts)) (length (columnsOf ts)) (columnRecord n b) ≡ padded 16 noColumn (columnRecords 0 (inLast ts b))
+    → set (padded 16 noColumn (columnRecords 0 ts)) (length (columnsOf ts)) (columnRecord n b)
+    ≡ padded 16 noColumn (columnRecords 0 (inLast ts b))
 columns-more ts b n e h =
     let room : length (columnRecords 0 ts) < 16 = rw (columns-length 0 ts) h in
     rw (columns-last 0 n ts b e, zero-add n, ← columns-length 0 ts) (padded-more 16 noColumn (columnRecords 0 ts) (columnRecord n b) room)
@@ -82,18 +85,22 @@ pub used-laid : (e : model.Expression) (t : ℕ) → length (e .used) < 4 → us
 unfolding expressionRecord
 used-laid e t h = rw (padded-more 4 0 (e .used) t h, length-append (e .used) (t ∷ []))
 
-pub output-laid : (e : model.Expression) (c : ℕ) → length (e .outputs) < 16 → outputMore (expressionRecord e) c ≡ expressionRecord (withOutput e c)
+pub output-laid : (e : model.Expression) (c : ℕ) → length (e .outputs) < 16
+    → outputMore (expressionRecord e) c ≡ expressionRecord (withOutput e c)
 unfolding expressionRecord
 output-laid e c h = rw (padded-more 16 0 (e .outputs) c h, length-append (e .outputs) (c ∷ []))
 
-pub clause-laid : (e : model.Expression) → length (e .condition) < 4
-    → clauseMore (expressionRecord e) ≡ expressionRecord (withCondition e (e .condition ++ [] ∷ []))
+pub condition-laid : (e : model.Expression) (k : Condition) (c : model.Condition) → k ≡ conditionRecord c
+    → conditioned (expressionRecord e) k ≡ expressionRecord (withCondition e c)
 unfolding expressionRecord
-clause-laid e h =
+condition-laid e k c q = rw q
+
+pub clause-laid : (k : model.Condition) → length k < 4 → clauseMore (conditionRecord k) ≡ conditionRecord (k ++ [] ∷ [])
+clause-laid k h =
     rw (
-      length-append (e .condition) ([] ∷ []),
-      map-snoc clauseRecord (e .condition) [],
-      padded-same 4 noClause (map clauseRecord (e .condition)) (rw (length-map (e .condition) clauseRecord) h),
+      length-append k ([] ∷ []),
+      map-snoc clauseRecord k [],
+      padded-same 4 noClause (map clauseRecord k) (rw (length-map k clauseRecord) h),
     )
 
 longer-laid : (c : model.Clause) (k : model.Comparison) → length c < 6
@@ -106,28 +113,26 @@ longer-laid c k h =
       length-map c comparisonRecord,
     )
 
-module _ (e : model.Expression) (i : ℕ) (some : suc i ≡ length (e .condition)) where
-  below : i < length (map clauseRecord (e .condition))
-  below = rw (length-map (e .condition) clauseRecord) (omega arith)
+module _ (k : model.Condition) (i : ℕ) (some : suc i ≡ length k) where
+  below : i < length (map clauseRecord k)
+  below = rw (length-map k clauseRecord) (omega arith)
 
-  place : length (e .condition) - 1 ≡ i
+  place : length k - 1 ≡ i
   place = omega arith
 
-  pub last-laid : lastClause (expressionRecord e) ≡ clauseRecord (lastOf (e .condition))
-  unfolding expressionRecord
-  last-laid = rw place (getD-padded 4 noClause (map clauseRecord (e .condition)) i _ below ∙ last-at clauseRecord (e .condition) i _ some)
+  pub last-laid : lastClause (conditionRecord k) ≡ clauseRecord (lastOf k)
+  last-laid = rw place (getD-padded 4 noClause (map clauseRecord k) i _ below ∙ last-at clauseRecord k i _ some)
 
-  pub comparison-laid : (k : model.Comparison) → length (lastOf (e .condition)) < 6
-      → comparisonMore (expressionRecord e) (comparisonRecord k) ≡ expressionRecord (withCondition e (inLast (e .condition) k))
-  unfolding expressionRecord
-  comparison-laid k h =
+  pub comparison-laid : (c : model.Comparison) → length (lastOf k) < 6
+      → comparisonMore (conditionRecord k) (comparisonRecord c) ≡ conditionRecord (inLast k c)
+  comparison-laid c h =
       rw (
         last-laid,
         place,
-        longer-laid (lastOf (e .condition)) k h,
-        length-last (e .condition) k,
-        set-padded 4 noClause (map clauseRecord (e .condition)) i (clauseRecord (lastOf (e .condition) ++ k ∷ [])) below,
-        set-last clauseRecord (e .condition) i k some,
+        longer-laid (lastOf k) c h,
+        length-last k c,
+        set-padded 4 noClause (map clauseRecord k) i (clauseRecord (lastOf k ++ c ∷ [])) below,
+        set-last clauseRecord k i c some,
       )
 
 -- ---- the current expression
@@ -136,12 +141,13 @@ unfolding recordOf
 current-laid true j = refl
 current-laid false j = refl
 
-pub placed-laid : (q : Bool) (j : model.Job) (e : model.Expression) → placed q (recordOf j) (expressionRecord e) ≡ recordOf (withCurrent q j e)
+pub placed-laid : (q : Bool) (j : model.Job) (e : model.Expression)
+    → placed q (recordOf j) (expressionRecord e) ≡ recordOf (withCurrent q j e)
 unfolding recordOf
 placed-laid true j e = refl
 placed-laid false j e = refl
 
--- what is put in its place stands there, in place of what stood there before; and what stands there can be taken out
+-- what is put in its place stands there, in place of what stood there before
 pub current-placed : (q : Bool) (r : Job) (e : Expression) → currentIn q (placed q r e) ≡ e
 current-placed true r e = refl
 current-placed false r e = refl
@@ -149,7 +155,3 @@ current-placed false r e = refl
 pub placed-again : (q : Bool) (r : Job) (e x : Expression) → placed q (placed q r e) x ≡ placed q r x
 placed-again true r e x = refl
 placed-again false r e x = refl
-
-pub placed-current : (q : Bool) (r : Job) → placed q r (currentIn q r) ≡ r
-placed-current true r = refl
-placed-current false r = refl

@@ -1,5 +1,5 @@
 -- Tests on the record of a job are the tests on the job. Assumes nothing.
-use mathlib.Core.Path.{_≡_, refl, sym, ap}
+use mathlib.Core.Path.{_≡_, refl, ap}
 use mathlib.Core.Bool.{Bool, true, false, _&&_, _||_}
 use mathlib.Core.List.{List, [], _∷_, map}
 use Prim.Native.Nat.{ℕ, zero, suc, _-_}
@@ -7,7 +7,7 @@ use native.Mathlib.Numerals.{sub-one}
 use native.Mathlib.Omega.{arith}
 use lib.ListN.{length, getD, set, take, List·getD-map}
 use lib.Dec.{eqb, ltb}
-use borrow.Author.Tests.{eq-eqb, ne-eqb, ltb-true}
+use borrow.Author.Tests.{ne-eqb, ltb-true}
 use Rattle.base.specs.Lists.{anyOf, lastOf}
 use Rattle.base.specs.Arrays.{padded}
 use Rattle.base.proofs.Arrays.{take-padded, getD-padded}
@@ -18,10 +18,10 @@ use Rattle.job.specs.declared.Clause.{Clause}
 use Rattle.job.specs.declared.Column.{Column}
 use Rattle.job.specs.declared.Job.{Job}
 use Rattle.job.specs.Record.{noColumn}
-use Rattle.job.specs.Meaning.{columnRecords, expressionRecord, recordOf}
-use Rattle.job.proofs.Columns.{column-of}
+use Rattle.job.specs.Meaning.{columnRecords, conditionRecord, expressionRecord, recordOf}
+use Rattle.job.proofs.Declared.{column-of}
 use Rattle.layout.specs.Reading.{aboveLast}
-use Rattle.commands.specs.Uses.{tablesIn, lastSize, scopedIn, aboveIn}
+use Rattle.commands.specs.Uses.{tablesIn, lastClause, scopedIn, aboveIn}
 use Rattle.commands.proofs.Laid.{last-laid}
 
 last-above : (l : List ℕ) (i t : ℕ) → suc i ≡ length l → ltb (getD l i 0) t ≡ aboveLast l t
@@ -34,7 +34,8 @@ last-above (x ∷ y ∷ l) (suc i) t e = last-above (y ∷ l) i t (omega arith)
 above-list : (l : List ℕ) (t : ℕ) → (eqb (length l) 0 || ltb (getD (padded 4 0 l) (length l - 1) 0) t) ≡ aboveLast l t
 above-list [] t = refl
 above-list (x ∷ l) t =
-    rw (ne-eqb (suc (length l)) 0 (λ e. omega arith), sub-one, getD-padded 4 0 (x ∷ l) (length l) 0 (omega arith)) (last-above (x ∷ l) (length l) t refl)
+    rw (ne-eqb (suc (length l)) 0 (λ e. omega arith), sub-one, getD-padded 4 0 (x ∷ l) (length l) 0 (omega arith))
+    (last-above (x ∷ l) (length l) t refl)
 
 pub above-is : (e : model.Expression) (t : ℕ) → aboveIn (expressionRecord e) t ≡ aboveLast (e .used) t
 unfolding expressionRecord
@@ -61,24 +62,20 @@ scoped-is j e c = rw (used-are e) (go (ltb c (length (columnsOf (j .tables)))) r
     go false h = refl
 
 -- the number of comparisons in the last clause
-pub last-size-is : (e : model.Expression) → lastSize (expressionRecord e) ≡ length (lastOf (e .condition))
-unfolding expressionRecord
-last-size-is e = go (e .condition) refl
-  where
-    go : (k : model.Condition) → e .condition ≡ k → lastSize (expressionRecord e) ≡ length (lastOf (e .condition))
-    go [] q = rw (eq-eqb (length (e .condition)) 0 (ap length q), q)
-    go (x ∷ k) q =
-        let some : suc (length k) ≡ length (e .condition) = sym (ap length q) in
-        rw (ne-eqb (length (e .condition)) 0 (λ z. omega arith)) (ap (λ (c : Clause). c .size) (last-laid e (length k) some))
+pub last-size-is : (k : model.Condition) → lastClause (conditionRecord k) .size ≡ length (lastOf k)
+last-size-is [] = refl
+last-size-is (x ∷ k) = ap (λ (c : Clause). c .size) (last-laid (x ∷ k) (length k) refl)
 
 -- ---- the tables of the columns, beside the record
 pub table-at : (r : Job) (ts : List ℕ) (c : ℕ) → ts ≡ tablesIn r → getD ts c 0 ≡ getD (r .columns) c noColumn .table
 table-at r ts c e = rw e (List·getD-map (λ (k : Column). k .table) (r .columns) c noColumn)
 
-table-set : (l : List Column) (n : ℕ) (k : Column) → set (map (λ (c : Column). c .table) l) n (k .table) ≡ map (λ (c : Column). c .table) (set l n k)
+table-set : (l : List Column) (n : ℕ) (k : Column)
+    → set (map (λ (c : Column). c .table) l) n (k .table) ≡ map (λ (c : Column). c .table) (set l n k)
 table-set [] n k = refl
 table-set (x ∷ l) zero k = refl
 table-set (x ∷ l) (suc n) k = rw (table-set l n k)
 
-pub table-more : (r : Job) (ts : List ℕ) (n : ℕ) (k : Column) → ts ≡ tablesIn r → set ts n (k .table) ≡ map (λ (c : Column). c .table) (set (r .columns) n k)
+pub table-more : (r : Job) (ts : List ℕ) (n : ℕ) (k : Column) → ts ≡ tablesIn r
+    → set ts n (k .table) ≡ map (λ (c : Column). c .table) (set (r .columns) n k)
 table-more r ts n k e = rw e (table-set (r .columns) n k)

@@ -1,8 +1,7 @@
 -- Tests of the same values. Assumes nothing.
-use mathlib.Core.Path.{_≡_, sym, _∙_}
-use mathlib.Core.Bool.{Bool, true, false, not}
+use mathlib.Core.Path.{_≡_}
+use mathlib.Core.Bool.{Bool}
 use lib.IntN.{ℤ}
-use borrow.Author.Tests.{not-true, not-false}
 use Rattle.model.specs.WellFormed.{inRange}
 use Rattle.commands.specs.Uses.{boundsFit}
 

@@ -3,8 +3,8 @@ use mathlib.Core.Path.{_≡_}
 use mathlib.Core.Bool.{Bool, true, cond, _&&_, _||_}
 use mathlib.Core.List.{List, [], map}
 use mathlib.Core.Option.{Option, none, some}
-use Prim.Native.Nat.{ℕ, _+_, _-_, _≤_, _<_}
-use lib.ListN.{getD, set, take}
+use Prim.Native.Nat.{ℕ, _+_, _-_, _<_}
+use lib.ListN.{getD, set, take, replicate}
 use lib.IntN.{ℤ}
 use lib.Signed.{leZ}
 use lib.Dec.{T, eqb, ltb}
@@ -14,14 +14,16 @@ use Rattle.model.specs.WellFormed.{inRange}
 use Rattle.job.specs.declared.Column.{Column}
 use Rattle.job.specs.declared.Comparison.{Comparison}
 use Rattle.job.specs.declared.Clause.{Clause}
+use Rattle.job.specs.declared.Condition.{Condition}
 use Rattle.job.specs.declared.Expression.{Expression}
 use Rattle.job.specs.declared.Job.{Job}
-use Rattle.job.specs.Record.{noColumn}
+use Rattle.job.specs.Record.{noColumn, noComparison, noClause, noExpression}
 use Rattle.job.specs.Meaning.{meaningOf, recordOf}
 use Rattle.layout.specs.declared.Command.{Command}
 use Rattle.layout.specs.Commands.{Entry}
 use Rattle.layout.specs.Reading.{State, current, follows, hasRoom, inRanges, opKnown, declared, isNew, added}
 use Rattle.commands.specs.declared.Cursor.{Cursor}
+use Rattle.commands.specs.declared.Draft.{Draft}
 use Rattle.commands.specs.declared.Addition.{Addition}
 use Rattle.commands.specs.declared.Addition.the-variants.{Table as TableAdded, Column as ColumnAdded, Nothing}
 use Rattle.commands.specs.declared.Addition.the-variants.{Used, Output, Clause as ClauseAdded, Compared}
@@ -39,17 +41,37 @@ listedOf (some c) = As c
 abbrev pub currentIn : Bool → Job → Expression
 currentIn q r = cond q (r .query) (r .extract)
 
+abbrev pub noDraft : Draft
+noDraft = record {
+  tables = 0;
+  used = replicate 4 0;
+  width = 0;
+  outputs = replicate 16 0;
+  size = 0;
+  clauses = replicate 4 noClause;
+  comparisons = 0;
+  last = replicate 6 noComparison;
+}
+
+-- the last clause; where there is none, the empty one
+abbrev pub lastIn : Draft → Clause
+lastIn d = record { size = d .comparisons; comparisons = d .last }
+
+-- the clauses, with the last one in its place
+abbrev pub conditionIn : Draft → Condition
+conditionIn d = record { size = d .size; clauses = set (d .clauses) (d .size - 1) (lastIn d) }
+
+-- the expression that is drafted
+abbrev pub drafted : Draft → Expression
+drafted d = record { tables = d .tables; used = d .used; width = d .width; outputs = d .outputs; condition = conditionIn d }
+
 -- the tables of the columns
 abbrev pub tablesIn : Job → List ℕ
 tablesIn r = map (λ (c : Column). c .table) (r .columns)
 
 -- the last clause, where there is one
-abbrev pub lastClause : Expression → Clause
-lastClause e = getD (e .clauses) (e .size - 1) (record { size = 0; comparisons = [] })
-
--- the number of its comparisons; with no clause, 0
-abbrev pub lastSize : Expression → ℕ
-lastSize e = cond (eqb (e .size) 0) 0 (lastClause e .size)
+abbrev pub lastClause : Condition → Clause
+lastClause k = getD (k .clauses) (k .size - 1) (record { size = 0; comparisons = [] })
 
 -- column c is declared, and its table used
 abbrev pub scopedIn : Job → Expression → ℕ → Bool
@@ -69,13 +91,13 @@ placed q r e = record {
   query = cond q e (r .query);
 }
 
--- the record that is being read into: the expression that commands are for stands beside it
-abbrev pub whole : Cursor → Job → Expression → Job
-whole cur r e = placed (cur .«in_query») r e
+-- the record that is being read into: the draft of the expression that commands are for stands beside it
+abbrev pub whole : Cursor → Job → Draft → Job
+whole cur r d = placed (cur .«in_query») r (drafted d)
 
 -- what a cursor and that record say has been read
-abbrev pub stateIn : Cursor → Job → Expression → State
-stateIn cur r e = record { last = cur .last; inQuery = cur .«in_query»; job = meaningOf (whole cur r e) }
+abbrev pub stateIn : Cursor → Job → Draft → State
+stateIn cur r d = record { last = cur .last; inQuery = cur .«in_query»; job = meaningOf (whole cur r d) }
 
 -- ---- One entry more
 
@@ -97,8 +119,7 @@ usedMore e t = record {
   used = set (e .used) (e .tables) t;
   width = e .width;
   outputs = e .outputs;
-  size = e .size;
-  clauses = e .clauses;
+  condition = e .condition;
 }
 
 abbrev pub outputMore : Expression → ℕ → Expression
@@ -107,59 +128,41 @@ outputMore e c = record {
   used = e .used;
   width = e .width + 1;
   outputs = set (e .outputs) (e .width) c;
-  size = e .size;
-  clauses = e .clauses;
+  condition = e .condition;
 }
 
-abbrev pub clauseMore : Expression → Expression
-clauseMore e = record {
-  tables = e .tables;
-  used = e .used;
-  width = e .width;
-  outputs = e .outputs;
-  size = e .size + 1;
-  clauses = e .clauses;
-}
+abbrev pub clauseMore : Condition → Condition
+clauseMore k = record { size = k .size + 1; clauses = k .clauses }
 
 abbrev pub withComparison : Clause → Comparison → Clause
 withComparison c k = record { size = c .size + 1; comparisons = set (c .comparisons) (c .size) k }
 
 -- in the last clause
-abbrev pub comparisonMore : Expression → Comparison → Expression
-comparisonMore e k = record {
-  tables = e .tables;
-  used = e .used;
-  width = e .width;
-  outputs = e .outputs;
-  size = e .size;
-  clauses = set (e .clauses) (e .size - 1) (withComparison (lastClause e) k);
-}
+abbrev pub comparisonMore : Condition → Comparison → Condition
+comparisonMore k c = record { size = k .size; clauses = set (k .clauses) (k .size - 1) (withComparison (lastClause k) c) }
 
--- a comparison more fits the last clause
-pub record Open (e : Expression) : Type 0 where
-  pub some : 0 < e .size
-  pub few : e .size ≤ 4
-  pub room : lastClause e .size < 6
+abbrev pub conditioned : Expression → Condition → Expression
+conditioned e k = record { tables = e .tables; used = e .used; width = e .width; outputs = e .outputs; condition = k }
 
 -- the record with what a command adds
-abbrev pub grown : Cursor → Job → Expression → Addition → Job
-grown cur r e TableAdded = whole cur (tableMore r) e
-grown cur r e (ColumnAdded k) = whole cur (columnMore r k) e
-grown cur r e Nothing = whole cur r e
-grown cur r e (Used t) = whole cur r (usedMore e t)
-grown cur r e (Output c) = whole cur r (outputMore e c)
-grown cur r e ClauseAdded = whole cur r (clauseMore e)
-grown cur r e (Compared k) = whole cur r (comparisonMore e k)
+abbrev pub grown : Cursor → Job → Draft → Addition → Job
+grown cur r d TableAdded = whole cur (tableMore r) d
+grown cur r d (ColumnAdded k) = whole cur (columnMore r k) d
+grown cur r d Nothing = whole cur r d
+grown cur r d (Used t) = placed (cur .«in_query») r (usedMore (drafted d) t)
+grown cur r d (Output c) = placed (cur .«in_query») r (outputMore (drafted d) c)
+grown cur r d ClauseAdded = placed (cur .«in_query») r (conditioned (drafted d) (clauseMore (conditionIn d)))
+grown cur r d (Compared k) = placed (cur .«in_query») r (conditioned (drafted d) (comparisonMore (conditionIn d) k))
 
 -- there is room for it
-abbrev pub Fits : Job → Expression → Addition → Type 0
-Fits r e TableAdded = r .tables < 4
-Fits r e (ColumnAdded k) = r .width < 16
-Fits r e Nothing = T true
-Fits r e (Used t) = e .tables < 4
-Fits r e (Output c) = e .width < 16
-Fits r e ClauseAdded = e .size < 4
-Fits r e (Compared k) = Open e
+abbrev pub Fits : Job → Draft → Addition → Type 0
+Fits r d TableAdded = r .tables < 4
+Fits r d (ColumnAdded k) = r .width < 16
+Fits r d Nothing = T true
+Fits r d (Used t) = d .tables < 4
+Fits r d (Output c) = d .width < 16
+Fits r d ClauseAdded = d .size < 4
+Fits r d (Compared k) = d .comparisons < 6
 
 -- ---- The checks 7 to 10
 
@@ -185,28 +188,29 @@ enteredOf st x =
     (addedTo (recordOf (added (st .inQuery) (st .job) (current st) x))))))
 
 -- what was judged, in terms of the record
-abbrev pub enteredBy : Cursor → Job → Expression → Judged → Entered
-enteredBy cur r e (Added x) = addedTo (grown cur r e x)
-enteredBy cur r e (Fault n) = faultOf n
+abbrev pub enteredBy : Cursor → Job → Draft → Judged → Entered
+enteredBy cur r d (Added x) = addedTo (grown cur r d x)
+enteredBy cur r d (Fault n) = faultOf n
 
-abbrev pub FitsJudged : Job → Expression → Judged → Type 0
-FitsJudged r e (Added x) = Fits r e x
-FitsJudged r e (Fault n) = T true
+abbrev pub FitsJudged : Job → Draft → Judged → Type 0
+FitsJudged r d (Added x) = Fits r d x
+FitsJudged r d (Fault n) = T true
 
 -- an entry is judged rightly
-pub record Judges (cur : Cursor) (r : Job) (e : Expression) (x : Entry) (j : Judged) : Type 0 where
-  pub told : enteredBy cur r e j ≡ enteredOf (stateIn cur r e) x
-  pub fits : FitsJudged r e j
+pub record Judges (cur : Cursor) (r : Job) (d : Draft) (x : Entry) (j : Judged) : Type 0 where
+  pub told : enteredBy cur r d j ≡ enteredOf (stateIn cur r d) x
+  pub fits : FitsJudged r d j
 
 -- ---- What reading keeps
 
--- the record is a job's, and what has been read is well formed as far as it goes
-pub record Held (cur : Cursor) (job : Job) (e : Expression) : Type 0 where
-  pub laid : whole cur job e ≡ recordOf (meaningOf (whole cur job e))
-  pub sound : Sound (stateIn cur job e)
+-- the record is a job's, and what has been read is well formed as far as it goes; the query is put into the record at the end
+pub record Held (cur : Cursor) (job : Job) (d : Draft) : Type 0 where
+  pub laid : whole cur job d ≡ recordOf (meaningOf (whole cur job d))
+  pub sound : Sound (stateIn cur job d)
+  pub idle : job .query ≡ noExpression
 
 -- a command that is in order and has room
-pub record Ready (cur : Cursor) (job : Job) (e : Expression) (c : Command) : Type 0 where
-  pub held : Held cur job e
-  pub in-order : follows (stateIn cur job e) c ≡ true
-  pub room : hasRoom (stateIn cur job e) c ≡ true
+pub record Ready (cur : Cursor) (job : Job) (d : Draft) (c : Command) : Type 0 where
+  pub held : Held cur job d
+  pub in-order : follows (stateIn cur job d) c ≡ true
+  pub room : hasRoom (stateIn cur job d) c ≡ true

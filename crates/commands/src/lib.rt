@@ -2,17 +2,21 @@
 // record look at it and never change it.
 ghost use mathlib.Core.Path.{_≡_};
 ghost use mathlib.Core.Bool.{_||_};
-ghost use Prim.Native.Nat.{_+_, _≤_, _<_};
-ghost use lib.ListN.{length};
+ghost use Prim.Native.Nat.{_+_, _-_, _≤_, _<_};
+ghost use lib.ListN.{length, replicate};
 ghost use lib.Dec.{eqb, leb};
 ghost use Rattle.base.specs.Lists.{anyOf};
 ghost use Rattle.model.specs.WellFormed.{inRange};
+ghost use Rattle.job.specs.Record.{noComparison};
 ghost use Rattle.layout.specs.declared.Command.the-variants.{NextColumn, TableUsed, OutputColumn, NumberCompared, ColumnCompared};
-ghost use Rattle.layout.specs.Commands.{commandOf, operands, inClause, ending, before, entryAt};
+ghost use Rattle.layout.specs.Commands.{commandOf, operands, inCondition, ending, before, entryAt};
 ghost use Rattle.layout.specs.Reading.{starts, hasRoom};
-ghost use Rattle.commands.specs.Uses.{listedOf, stateIn, lastSize, scopedIn, aboveIn, tablesIn, boundsFit, Judges, Held, Ready};
+ghost use Rattle.commands.specs.Uses.{listedOf, noDraft, lastIn, drafted, stateIn, scopedIn, aboveIn, tablesIn, boundsFit};
+ghost use Rattle.commands.specs.Uses.{Judges, Held, Ready};
+use job::Clause;
 use job::Column;
 use job::Comparison;
+use job::Condition;
 use job::Expression;
 use job::Job;
 use layout::Command;
@@ -22,6 +26,96 @@ pub struct Cursor {
     pub at: usize,
     pub last: u8,
     pub in_query: bool,
+}
+
+// The expression that commands are for. It is written in place, which an array in a struct in a struct cannot be: so the condition's parts
+// stand beside the others, and the last clause's, the first `comparisons` of `last`, by themselves. `clauses` has the clauses before it.
+pub struct Draft {
+    pub tables: usize,
+    pub used: [u8; Job::TABLES],
+    pub width: usize,
+    pub outputs: [u8; Job::COLUMNS],
+    pub size: usize,
+    pub clauses: [Clause; Job::CLAUSES],
+    pub comparisons: usize,
+    pub last: [Comparison; Job::COMPARISONS],
+}
+
+// What a clause begins with.
+pub fn no_comparisons() -> [Comparison; Job::COMPARISONS]
+    ensures { λ r. ⌜ r ≡ replicate 6 noComparison ⌝ }
+{
+    let comparison = Comparison {
+        op: 0,
+        left: 0,
+        right: 0,
+        number: 0,
+    };
+    [comparison; Job::COMPARISONS]
+}
+
+// The place of the last of n clauses; 0 where there is none.
+pub fn last_place(n: usize) -> usize
+    ensures { λ r. ⌜ r ≡ n - 1 ⌝ }
+{
+    if n == 0 { 0 } else { n - 1 }
+}
+
+impl Draft {
+    // What an expression begins with.
+    pub fn empty() -> Self
+        ensures { λ r. ⌜ r ≡ noDraft ⌝ }
+    {
+        let none = no_comparisons();
+        let clause = Clause {
+            size: 0,
+            comparisons: none,
+        };
+        Self {
+            tables: 0,
+            used: [0; Job::TABLES],
+            width: 0,
+            outputs: [0; Job::COLUMNS],
+            size: 0,
+            clauses: [clause; Job::CLAUSES],
+            comparisons: 0,
+            last: none,
+        }
+    }
+
+    // The last clause.
+    pub fn last_clause(self) -> Clause
+        ensures { λ r. ⌜ r ≡ lastIn self ⌝ }
+    {
+        let last = self.last;
+        Clause {
+            size: self.comparisons,
+            comparisons: last,
+        }
+    }
+
+    // The expression as the record has it: the last clause is in its place. Where there is none, the empty one stands there already.
+    pub fn expression(self) -> Expression
+        requires { ⌜ self .size ≤ 4 ⌝ }
+        ensures { λ r. ⌜ r ≡ drafted self ⌝ }
+    {
+        let used = self.used;
+        let outputs = self.outputs;
+        let clauses = self.clauses;
+        let mut condition = Condition {
+            size: self.size,
+            clauses,
+        };
+        let at = last_place(self.size);
+        condition.clauses[at] = self.last_clause();
+        Expression {
+            tables: self.tables,
+            used,
+            width: self.width,
+            outputs,
+            condition,
+        }
+    }
 }
 
 // What a command adds to the record. The commands that begin an expression or end the job add nothing.
@@ -125,15 +219,15 @@ pub fn follows(c: Command, last: u8, in_query: bool) -> bool
         Command::TableUsed => base::is_among(&[0x20, 0x21, 0x30], 3, last),
         Command::OutputColumn => base::is_among(&[0x30, 0x31], 2, last),
         Command::NextClause => is_ending(last),
-        Command::NumberCompared => is_in_clause(last),
-        Command::ColumnCompared => is_in_clause(last),
+        Command::NumberCompared => is_in_condition(last),
+        Command::ColumnCompared => is_in_condition(last),
         Command::End => if in_query { is_ending(last) } else { false },
     }
 }
 
-// Whether a comparison may come after the last command.
-fn is_in_clause(last: u8) -> bool
-    ensures { λ r. ⌜ r ≡ anyOf (eqb last) inClause ⌝ }
+// Whether the last command stands in a condition. A comparison may follow it then.
+fn is_in_condition(last: u8) -> bool
+    ensures { λ r. ⌜ r ≡ anyOf (eqb last) inCondition ⌝ }
 {
     base::is_among(&[0x40, 0x41, 0x42], 3, last)
 }
@@ -145,7 +239,7 @@ fn is_ending(last: u8) -> bool
     if last == 0x31 {
         true
     } else {
-        is_in_clause(last)
+        is_in_condition(last)
     }
 }
 
@@ -190,23 +284,11 @@ fn are_bounds(lo: i32, hi: i32) -> bool
 
 // ---- The record so far
 
-// The expression that commands are for stands beside the record: the record is the one with it in its place. What a function takes by value
-// it reads a few numbers of, and nothing is copied.
-
-// The number of comparisons in the last clause; 0 where there is none.
-fn last_size(e: Expression) -> usize
-    requires { ⌜ e .size ≤ 4 ⌝ }
-    ensures { λ r. ⌜ r ≡ lastSize e ⌝ }
-{
-    if e.size == 0 {
-        return 0;
-    }
-    let clause = e.clauses[e.size - 1];
-    clause.size
-}
+// The draft stands beside the record: the record so far is the one with it in its place. What a function takes by value is not copied where
+// only numbers of it are read; an array that is indexed is taken out first, since else all that stands beside it would be copied too.
 
 // Whether a command's entry is within the limits.
-pub fn has_room(c: Command, cur: Cursor, job: Job, e: Expression) -> bool
+pub fn has_room(c: Command, cur: Cursor, job: Job, e: Draft) -> bool
     requires { ⌜ Held cur job e ⌝ }
     ensures { λ r. ⌜ r ≡ hasRoom (stateIn cur job e) c ⌝ }
 {
@@ -218,16 +300,16 @@ pub fn has_room(c: Command, cur: Cursor, job: Job, e: Expression) -> bool
         Command::TableUsed => true,
         Command::OutputColumn => true,
         Command::NextClause => e.size < Job::CLAUSES,
-        Command::NumberCompared => last_size(e) < Job::COMPARISONS,
-        Command::ColumnCompared => last_size(e) < Job::COMPARISONS,
+        Command::NumberCompared => e.comparisons < Job::COMPARISONS,
+        Command::ColumnCompared => e.comparisons < Job::COMPARISONS,
         Command::End => true,
     }
 }
 
 // Whether column c is declared and its table used.
-fn is_in_scope(tables: &Tables, job: Job, e: Expression, c: u8) -> bool
+fn is_in_scope(tables: &Tables, job: Job, e: Draft, c: u8) -> bool
     requires { ⌜ (now tables ≡ tablesIn job) × (job .width ≤ 16) × (e .tables ≤ 4) ⌝ }
-    ensures { λ r. ⌜ r ≡ scopedIn job e c ⌝ }
+    ensures { λ r. ⌜ r ≡ scopedIn job (drafted e) c ⌝ }
 {
     let k = c as usize;
     if k >= job.width {
@@ -238,20 +320,21 @@ fn is_in_scope(tables: &Tables, job: Job, e: Expression, c: u8) -> bool
 }
 
 // Whether table t comes after the used tables.
-fn is_above(e: Expression, t: u8) -> bool
+fn is_above(e: Draft, t: u8) -> bool
     requires { ⌜ e .tables ≤ 4 ⌝ }
-    ensures { λ r. ⌜ r ≡ aboveIn e t ⌝ }
+    ensures { λ r. ⌜ r ≡ aboveIn (drafted e) t ⌝ }
 {
     if e.tables == 0 {
         return true;
     }
-    e.used[e.tables - 1] < t
+    let used = e.used;
+    used[e.tables - 1] < t
 }
 
 // ---- A command's operands, by the checks 7 to 10 in this order
 
 // 11: lo, hi.
-fn next_column(s: &[u8], cur: Cursor, job: Job, e: Expression) -> Judged
+fn next_column(s: &[u8], cur: Cursor, job: Job, e: Draft) -> Judged
     requires { ⌜ (Ready cur job e NextColumn) × (cur .at + 9 ≤ length (now s)) ⌝ }
     ensures { λ r. ⌜ Judges cur job e (entryAt NextColumn (now (s .entry)) (cur .at)) r ⌝ }
 {
@@ -272,7 +355,7 @@ fn next_column(s: &[u8], cur: Cursor, job: Job, e: Expression) -> Judged
 }
 
 // 30: a table, declared and above the ones before it.
-fn table_used(s: &[u8], cur: Cursor, job: Job, e: Expression) -> Judged
+fn table_used(s: &[u8], cur: Cursor, job: Job, e: Draft) -> Judged
     requires { ⌜ (Ready cur job e TableUsed) × (cur .at + 2 ≤ length (now s)) ⌝ }
     ensures { λ r. ⌜ Judges cur job e (entryAt TableUsed (now (s .entry)) (cur .at)) r ⌝ }
 {
@@ -288,7 +371,7 @@ fn table_used(s: &[u8], cur: Cursor, job: Job, e: Expression) -> Judged
 }
 
 // 31: a column in scope that is no output yet.
-fn output_column(s: &[u8], tables: &Tables, cur: Cursor, job: Job, e: Expression) -> Judged
+fn output_column(s: &[u8], tables: &Tables, cur: Cursor, job: Job, e: Draft) -> Judged
     requires { ⌜ (Ready cur job e OutputColumn) × (cur .at + 2 ≤ length (now s)) × (now tables ≡ tablesIn job) ⌝ }
     ensures { λ r. ⌜ Judges cur job e (entryAt OutputColumn (now (s .entry)) (cur .at)) r ⌝ }
 {
@@ -305,7 +388,7 @@ fn output_column(s: &[u8], tables: &Tables, cur: Cursor, job: Job, e: Expression
 }
 
 // 41: op, column, number. The number is judged before the op.
-fn number_compared(s: &[u8], tables: &Tables, cur: Cursor, job: Job, e: Expression) -> Judged
+fn number_compared(s: &[u8], tables: &Tables, cur: Cursor, job: Job, e: Draft) -> Judged
     requires { ⌜ (Ready cur job e NumberCompared) × (cur .at + 7 ≤ length (now s)) × (now tables ≡ tablesIn job) ⌝ }
     ensures { λ r. ⌜ Judges cur job e (entryAt NumberCompared (now (s .entry)) (cur .at)) r ⌝ }
 {
@@ -334,7 +417,7 @@ fn number_compared(s: &[u8], tables: &Tables, cur: Cursor, job: Job, e: Expressi
 }
 
 // 42: op, column, column.
-fn column_compared(s: &[u8], tables: &Tables, cur: Cursor, job: Job, e: Expression) -> Judged
+fn column_compared(s: &[u8], tables: &Tables, cur: Cursor, job: Job, e: Draft) -> Judged
     requires { ⌜ (Ready cur job e ColumnCompared) × (cur .at + 4 ≤ length (now s)) × (now tables ≡ tablesIn job) ⌝ }
     ensures { λ r. ⌜ Judges cur job e (entryAt ColumnCompared (now (s .entry)) (cur .at)) r ⌝ }
 {
@@ -361,7 +444,7 @@ fn column_compared(s: &[u8], tables: &Tables, cur: Cursor, job: Job, e: Expressi
 }
 
 // A command that has passed the checks 2 to 6.
-pub fn enter(s: &[u8], tables: &Tables, cur: Cursor, job: Job, e: Expression, c: Command) -> Judged
+pub fn enter(s: &[u8], tables: &Tables, cur: Cursor, job: Job, e: Draft, c: Command) -> Judged
     requires { ⌜ (Ready cur job e c) × (cur .at + 1 + operands c ≤ length (now s)) × (now tables ≡ tablesIn job) ⌝ }
     ensures { λ r. ⌜ Judges cur job e (entryAt c (now (s .entry)) (cur .at)) r ⌝ }
 {

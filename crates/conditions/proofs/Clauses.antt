@@ -1,22 +1,19 @@
--- The comparisons of a clause's record and the clauses of an expression's, one by one. Assumes nothing.
+-- The comparisons of a clause's record and the clauses of a condition's, one by one. Assumes nothing.
 use mathlib.Core.Path.{_≡_, ap, _∙_}
 use mathlib.Core.List.{[]}
 use Prim.Native.Nat.{ℕ, _<_, _≤_}
 use native.Mathlib.Omega.{arith}
 use lib.ListN.{length, getD, take, length-map, List·getD-map}
 use lib.Seq.{length-take-le, getD-take}
-use lib.Signed.{mag}
-use mir.Syntax.{w32}
-use mir.Val.{toZ, ofZ}
-use Rattle.words.proofs.Stored.{stored}
-use Rattle.job.specs.declared.Comparison.{Comparison}
+use Rattle.base.specs.Lists.{allOf}
+use Rattle.base.proofs.Places.{all-at}
 use Rattle.job.specs.declared.Clause.{Clause}
-use Rattle.job.specs.declared.Expression.{Expression}
-use Rattle.job.specs.Record.{noComparison}
-use Rattle.job.specs.Meaning.{comparisonOf, clauseOf}
-use Rattle.solver.specs.Lists.{coded}
+use Rattle.job.specs.declared.Condition.{Condition}
+use Rattle.job.specs.Record.{noComparison, noClause}
+use Rattle.job.specs.Meaning.{comparisonOf, clauseOf, conditionOf}
+use Rattle.solver.specs.Solver.{comparisonFits}
 use Rattle.solver.proofs.Progress.{Next}
-use Rattle.conditions.specs.Records.{conditionOf}
+use Rattle.conditions.specs.Uses.{ClauseFits, ConditionFits}
 
 module _ (c : Clause) (fit : c .size ≤ length (c .comparisons)) (i : ℕ) where
   size : length (clauseOf c) ≡ c .size
@@ -25,27 +22,44 @@ module _ (c : Clause) (fit : c .size ≤ length (c .comparisons)) (i : ℕ) wher
   pub comparison-done : c .size ≤ i → length (clauseOf c) ≤ i
   comparison-done h = omega (arith, size)
 
-  abbrev k : Comparison
-  k = getD (c .comparisons) i noComparison
-
-  -- with the number as the code reads it
-  pub comparison-next : i < c .size → mag (k .number) < 2147483648 → Next (clauseOf c) i (coded (k .op) (k .left) (k .right) (toZ w32 (ofZ w32 (k .number))))
-  comparison-next h f = (
+  pub comparison-next : i < c .size → Next (clauseOf c) i (comparisonOf (getD (c .comparisons) i noComparison))
+  comparison-next h = (
     omega (arith, size),
-    rw (stored _ f) (List·getD-map comparisonOf (take (c .size) (c .comparisons)) i noComparison ∙ rw (getD-take (c .size) (c .comparisons) i noComparison h)),
+    List·getD-map comparisonOf (take (c .size) (c .comparisons)) i noComparison
+        ∙ ap comparisonOf (getD-take (c .size) (c .comparisons) i noComparison h),
   )
 
-module _ (e : Expression) (fit : e .size ≤ length (e .clauses)) (q : ℕ) where
-  many : length (conditionOf e) ≡ e .size
-  many = length-map (take (e .size) (e .clauses)) clauseOf ∙ length-take-le (e .size) (e .clauses) fit
+-- clause q
+abbrev pub clauseAt : Condition → ℕ → Clause
+clauseAt k q = getD (k .clauses) q (record { size = 0; comparisons = [] })
 
-  pub clause-done : e .size ≤ q → length (conditionOf e) ≤ q
-  clause-done h = omega (arith, many)
+pub condition-length : (k : Condition) → k .size ≤ length (k .clauses) → length (conditionOf k) ≡ k .size
+condition-length k fit = length-map (take (k .size) (k .clauses)) clauseOf ∙ length-take-le (k .size) (k .clauses) fit
 
-  pub clause-more : q < e .size → q < length (conditionOf e)
-  clause-more h = omega (arith, many)
+module _ (k : Condition) (fit : k .size ≤ length (k .clauses)) (q : ℕ) where
+  pub clause-done : k .size ≤ q → length (conditionOf k) ≤ q
+  clause-done h = omega (arith, condition-length k fit)
 
-  pub clause-at : q < e .size → getD (conditionOf e) q [] ≡ clauseOf (getD (e .clauses) q (record { size = 0; comparisons = [] }))
-  clause-at h =
-      List·getD-map clauseOf (take (e .size) (e .clauses)) q (record { size = 0; comparisons = [] })
-      ∙ ap clauseOf (getD-take (e .size) (e .clauses) q (record { size = 0; comparisons = [] }) h)
+  module _ (h : q < k .size) where
+    pub clause-more : q < length (conditionOf k)
+    clause-more = omega (arith, condition-length k fit)
+
+    pub clause-at : getD (conditionOf k) q [] ≡ clauseOf (clauseAt k q)
+    clause-at =
+        List·getD-map clauseOf (take (k .size) (k .clauses)) q (record { size = 0; comparisons = [] })
+        ∙ ap clauseOf (getD-take (k .size) (k .clauses) q (record { size = 0; comparisons = [] }) h)
+
+-- the clauses of a condition that fits do
+module _ {n : ℕ} {k : Condition} (u : ConditionFits n k) (four : length (k .clauses) ≡ 4) where
+  pub few : k .size ≤ length (k .clauses)
+  few = omega (arith, u .small .clauses)
+
+  pub clause-fits : {q : ℕ} → q < k .size → ClauseFits n (clauseAt k q)
+  clause-fits {q} h = record {
+    small = u .small .comparisons q (omega (arith, u .small .clauses));
+    fit = rw (clause-at k few q h) at (all-at (allOf (comparisonFits n)) (conditionOf k) q [] (u .fit) (clause-more k few q h));
+  }
+
+-- and so does the clause that asks nothing
+pub nothing-fits : (n : ℕ) → ClauseFits n noClause
+nothing-fits n = record { small = omega arith; fit = tt }

@@ -1,12 +1,7 @@
 pub mod Stands
 pub mod Sought
-pub mod Breaking
 pub mod Clauses
-pub mod Filling
-pub mod Held
-pub mod Sizes
-pub mod Ahead
-pub mod Found
-pub mod Chosen
-pub mod Conditions
+pub mod Lists
 pub mod Meeting
+pub mod Pairs
+pub mod Both

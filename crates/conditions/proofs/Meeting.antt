@@ -1,116 +1,147 @@
--- A clause imposed on a copy of a zone: what is answered and left, by itself and clause after clause of a condition. Assumes nothing.
+-- Clauses imposed on a copy of a zone: what is answered and left, by two clauses and by one. Assumes nothing.
 use mathlib.Core.Path.{_≡_, refl, sym, ap, _∙_}
-use mathlib.Core.Bool.{Bool, true, false, false≢true}
-use mathlib.Core.List.{List, [], _∷_}
-use mathlib.Core.Option.{Option, none, some}
-use Prim.Native.Nat.{ℕ, suc, _+_, _<_, _≤_}
+use mathlib.Core.Bool.{Bool, true, false, not, false≢true}
+use mathlib.Core.List.{List, _++_}
+use mathlib.Core.Option.{Option, none, some, Option·none-ne-some, Option·some-injective}
+use Prim.Native.Nat.{ℕ, suc, _+_, _*_, _≤_}
 use native.Mathlib.Omega.{arith}
 use native.Mathlib.Numerals.{add-one}
-use lib.ListN.{length, drop}
+use lib.ListN.{length}
 use lib.Dec.{T}
-use mir.Facts.{and-yes}
-use Rattle.base.proofs.Options.{none-of, then-none, then-some}
+use mir.Facts.{yes-and}
+use borrow.Author.Tests.{not-true, not-false}
 use Rattle.base.specs.Lists.{allOf}
-use Rattle.base.specs.Options.{andThen, isSome}
-use Rattle.solver.specs.Obeying.{ObeysAll}
-use Rattle.model.specs.Tables.{Comparison, Clause}
-use Rattle.job.specs.declared.Expression.{Expression}
+use Rattle.base.specs.Options.{isSome}
+use Rattle.base.proofs.Lists.{all-append}
+use Rattle.base.proofs.Options.{none-of}
+use Rattle.model.specs.Tables as model
+use Rattle.job.specs.declared.Clause.{Clause}
 use Rattle.job.specs.Meaning.{clauseOf}
-use Rattle.zone.specs.Zone.{Zone, Closed}
-use Rattle.zone.specs.Array.{zoneIn, laid}
-use Rattle.zone.specs.Uses.{InArray}
-use Rattle.zone.proofs.Array.{zone-length, laid-length, laid-laid}
-use Rattle.zone.proofs.Answers.{Answers}
-use Rattle.solver.specs.Comparisons.{listOf, constraintsOf}
-use Rattle.solver.specs.Solver.{comparisonFits, imposed, imposedAll}
-use Rattle.solver.specs.Lists.{onward, reached}
-use Rattle.solver.proofs.Solver.{ObeysList, imposed-answers, list-answers}
+use Rattle.zone.specs.Zone.{Zone}
+use Rattle.zone.specs.Array.{zoneIn, laid, copied}
+use Rattle.zone.specs.Uses.{InArray, Copies}
+use Rattle.zone.proofs.Array.{zone-length, zone-copied}
+use Rattle.zone.proofs.Laid.{laid-is, laid-in-array, copied-in-array}
+use Rattle.solver.specs.Solver.{comparisonFits, imposedAll}
+use Rattle.solver.specs.Lists.{reached}
 use Rattle.solver.proofs.Found.{reached-is}
-use Rattle.conditions.specs.Meeting.{byClause}
-use Rattle.conditions.specs.Records.{conditionOf}
-use Rattle.conditions.specs.Uses.{Meeting, MeetsClause}
-use Rattle.conditions.proofs.Found.{Found, found-there, copy-is}
-use Rattle.conditions.proofs.Conditions.{clauseAt, clause-fits, no-clause, next-clause, this-clause}
+use Rattle.conditions.specs.Meeting.{Lies}
+use Rattle.conditions.specs.Uses.{ImposesClause, LaysPair}
+use Rattle.conditions.proofs.Lists.{reached-closed, imposed-append, reached-first, reached-second}
 
--- what is reached has the same nodes
-reached-length : (n : ℕ) (z : Zone) (ks : List Comparison) → Closed z → length z ≡ suc n → T (allOf (comparisonFits n) ks) → length (reached z ks) ≡ suc n
-reached-length n z [] cl size fit = size
-reached-length n z (k ∷ ks) cl size fit =
-    let (f, g) = and-yes (comparisonFits n k) (allOf (comparisonFits n) ks) fit in
-    go (imposed z k) (imposed-answers n z k cl size f) (λ y c e. reached-length n y ks c e g)
+-- o is a zone of n nodes, which lies in an array
+pub record Found (n : ℕ) (o : Option Zone) (e : List ℕ) : Type 0 where
+  pub is : o ≡ some (zoneIn n e)
+  pub in-array : InArray n e
+
+-- what an answer tells: there is something
+pub some-of : {A : Type 0} {r : Bool} (o : Option A) → r ≡ isSome o → r ≡ true → (a : A) × (o ≡ some a)
+some-of {A} o told some-row = go o (sym told ∙ some-row)
   where
-    go : (o : Option Zone) → Answers z (ObeysAll (listOf (constraintsOf k))) o
-        → ((y : Zone) → Closed y → length y ≡ suc n → length (reached y ks) ≡ suc n) → length (onward o z (λ x. reached x ks)) ≡ suc n
-    go none a rest = size
-    go (some y) (c, e, rows) rest = rest y c (e ∙ size)
+    go : (o : Option A) → isSome o ≡ true → (a : A) × (o ≡ some a)
+    go none e = absurd (false≢true e)
+    go (some a) e = (a, refl)
 
--- ---- one clause; `to` is the array into which the zone in d is copied
-module _ (n : ℕ) {d : List ℕ} (u : InArray (n + 1) d) (k : Clause) (fit : T (allOf (comparisonFits n) k)) (to : List ℕ) (full : length to ≡ 1089) where
+-- what a function that seeks o answers, and where what it found lies
+abbrev pub Ends : ℕ → Option Zone → Bool → List ℕ → Type 0
+Ends n o r e = (r ≡ isSome o) × Lies n o e
+
+pub ends-none : (n : ℕ) {o : Option Zone} (e : List ℕ) → o ≡ none → Ends n o false e
+ends-none n e is = (rw is, λ y found. absurd (Option·none-ne-some y (sym is ∙ found)))
+
+pub ends-some : (n : ℕ) {o : Option Zone} (e : List ℕ) → o ≡ some (zoneIn n e) → Ends n o true e
+ends-some n e is = (rw is, λ y found. Option·some-injective (zoneIn n e) y (sym is ∙ found))
+
+-- what a search within the rows of a pair of clauses finds is what the whole search finds
+pub within : (n : ℕ) {i o : Option Zone} {r : Bool} (e : List ℕ) → Ends n i r e → r ≡ true → ((w : Zone) → i ≡ some w → o ≡ some w) → Ends n o true e
+within n {i} {o} {r} e ends some-row found =
+    let (w, is) = some-of i (ends .0) some-row in
+    ends-some n e (found w is ∙ ap some (sym (ends .1 w is)))
+
+-- ---- a list of comparisons that was imposed on the zone in an array; r and e are what was answered and left
+module _ (n : ℕ) {d : List ℕ} (u : InArray (n + 1) d) (k : model.Clause) (fit : T (allOf (comparisonFits n) k)) where
   abbrev z : Zone
   z = zoneIn (n + 1) d
 
   size : length z ≡ suc n
   size = zone-length (n + 1) d ∙ add-one n
 
-  -- what is answered and left on the copy is what the zone itself would give
-  pub on-copy : {x : List ℕ} → x ≡ laid to (zoneIn (n + 1) d) → {r : Bool} {e : List ℕ}
-      → (r ≡ isSome (imposedAll (zoneIn (n + 1) x) k)) × (e ≡ laid x (reached (zoneIn (n + 1) x) k))
-      → (r ≡ isSome (imposedAll (zoneIn (n + 1) d) k)) × (e ≡ laid to (reached (zoneIn (n + 1) d) k))
-  on-copy copy (told, left) =
-      let same = reached-length n z k (u .closed) size fit in
-      let is-z = copy-is u to full copy in
-      (told ∙ rw is-z, left ∙ rw (is-z, copy) (laid-laid to z (reached z k) (omega (arith, same, u .small)) (size ∙ sym same)))
+  module _ {e : List ℕ} (left : e ≡ laid d (reached (zoneIn (n + 1) d) k)) where
+    pub left-zone : zoneIn (n + 1) e ≡ reached (zoneIn (n + 1) d) k
+    left-zone =
+        let (closed, same) = reached-closed n z k (u .closed) size fit in
+        rw left (laid-is (n + 1) d (reached z k) (u .room) (u .small) closed (same ∙ sym (add-one n)))
 
-  -- the zone in the array is the one that the clause leaves
-  left-found : {r : Bool} {e : List ℕ} → r ≡ isSome (imposedAll z k) → e ≡ laid to (reached z k) → r ≡ true → Found (n + 1) (imposedAll z k) to e
-  left-found {r} {e} told left some-row = go (imposedAll z k) refl (list-answers n z k (u .closed) size fit)
-    where
-      go : (o : Option Zone) → imposedAll z k ≡ o → Answers z (ObeysList k) o → Found (n + 1) (imposedAll z k) to e
-      go none h a = absurd (false≢true (sym (told ∙ ap isSome h) ∙ some-row))
-      go (some y) h (cl, same, rows) = found-there cl (u .small) (same ∙ zone-length (n + 1) d) full h (left ∙ ap (laid to) (reached-is z k y h))
+    pub left-in-array : InArray (n + 1) e
+    left-in-array =
+        let (closed, same) = reached-closed n z k (u .closed) size fit in
+        rw left (laid-in-array (n + 1) d (reached z k) (u .room) (u .small) closed (same ∙ sym (add-one n)))
 
--- ---- clause after clause of a condition, each on a copy of the zone
-module _ {n : ℕ} {z out : List ℕ} {p : Expression} (u : Meeting n z p out) (four : length (p .clauses) ≡ 4) where
-  abbrev at-first : Zone
-  at-first = zoneIn (n + 1) z
+  -- where some row meets the list, its zone lies in any array with room whose zone is the one that is reached
+  pub reached-found : {r : Bool} {e : List ℕ} → r ≡ isSome (imposedAll (zoneIn (n + 1) d) k) → zoneIn (n + 1) e ≡ reached (zoneIn (n + 1) d) k
+      → (n + 1) * 33 ≤ length e → r ≡ true → Found (n + 1) (imposedAll (zoneIn (n + 1) d) k) e
+  reached-found told left room some-row =
+      let (y, is) = some-of (imposedAll z k) told some-row in
+      let (closed, same) = reached-closed n z k (u .closed) size fit in
+      record {
+        is = is ∙ ap some (sym (left ∙ reached-is z k y is));
+        in-array = record { room = room; small = u .small; closed = rw left closed };
+      }
 
-  module _ {q : ℕ} (h : q < p .size) (to : List ℕ) (full : length to ≡ 1089) where
-    pub meet-asks : MeetsClause n z (clauseAt p q) to
-    meet-asks = record {
-      imposes = record {
-        in-array = u .in-array;
-        small = u .small .comparisons q (omega (arith, u .small .clauses));
-        fit = clause-fits u four h;
-      };
-      full = full;
-    }
+-- ---- two clauses; x is the copy of the zone in z that is laid over `to`
+abbrev pub Paired : ℕ → List ℕ → Clause → Clause → Bool → List ℕ → Type 0
+Paired n z c e r y =
+    (r ≡ isSome (imposedAll (zoneIn (n + 1) z) (clauseOf c ++ clauseOf e)))
+    × (zoneIn (n + 1) y ≡ reached (zoneIn (n + 1) z) (clauseOf c ++ clauseOf e))
 
-    -- r and e are what `meet` answers and leaves
-    module _ {r : Bool} {e : List ℕ} (told : r ≡ isSome (imposedAll at-first (clauseOf (clauseAt p q))))
-        (left : e ≡ laid to (reached at-first (clauseOf (clauseAt p q)))) where
-      pub room-left : length e ≡ 1089
-      room-left = rw left (laid-length to (reached at-first (clauseOf (clauseAt p q))) ∙ full)
+module _ {n : ℕ} {z to : List ℕ} {c e : Clause} (u : LaysPair n z c e to) where
+  pub pair-copies : Copies z to (n + 1)
+  pair-copies = record { from-room = u .in-array .room; to-room = u .room; small = u .in-array .small }
 
-      pub rows-none : r ≡ false → imposedAll (zoneIn (n + 1) z) (clauseOf (clauseAt p q)) ≡ none
-      rows-none = none-of (imposedAll at-first (clauseOf (clauseAt p q))) told
+  fits : T (allOf (comparisonFits n) (clauseOf c ++ clauseOf e))
+  fits = rw (all-append (comparisonFits n) (clauseOf c) (clauseOf e))
+      (yes-and (allOf (comparisonFits n) (clauseOf c)) (allOf (comparisonFits n) (clauseOf e)) (u .first .fit) (u .second .fit))
 
-      pub rows-found : r ≡ true → Found (n + 1) (imposedAll (zoneIn (n + 1) z) (clauseOf (clauseAt p q))) to e
-      rows-found = left-found n (u .in-array) (clauseOf (clauseAt p q)) (clause-fits u four h) to full told left
+  -- no row meets both, or the rows that do are there
+  pub pair-nothing : {r : Bool} → r ≡ isSome (imposedAll (zoneIn (n + 1) z) (clauseOf c ++ clauseOf e)) → r ≡ false
+      → imposedAll (zoneIn (n + 1) z) (clauseOf c ++ clauseOf e) ≡ none
+  pair-nothing = none-of (imposedAll (zoneIn (n + 1) z) (clauseOf c ++ clauseOf e))
 
-      pub rows-in-array : r ≡ true → InArray (n + 1) e
-      rows-in-array some-row = rows-found some-row .in-array
+  pub pair-found : {r : Bool} {y : List ℕ} → Paired n z c e r y → length y ≡ length to → r ≡ true
+      → Found (n + 1) (imposedAll (zoneIn (n + 1) z) (clauseOf c ++ clauseOf e)) y
+  pair-found is same some-row = reached-found n (u .in-array) (clauseOf c ++ clauseOf e) fits (is .0) (is .1) (omega (arith, same, u .room)) some-row
 
-      -- f is what is done with the rows that meet the clause
-      module _ (f : Zone → Option Zone) {o : Option Zone} (rest : byClause at-first (drop q (conditionOf p)) f ≡ o) where
-        pub no-rows : r ≡ false → byClause at-first (drop (q + 1) (conditionOf p)) f ≡ o
-        no-rows no-row = next-clause u four (λ c. andThen (imposedAll at-first c) f) q rest h (then-none f (rows-none no-row))
+  module _ {x : List ℕ} (copy : x ≡ copied (n + 1) z to) where
+    there : zoneIn (n + 1) x ≡ zoneIn (n + 1) z
+    there = rw copy (zone-copied (n + 1) z to (u .in-array .small) (u .room))
 
-        module _ (some-row : r ≡ true) where
-          pub rows-without : f (zoneIn (n + 1) e) ≡ none → byClause at-first (drop (q + 1) (conditionOf p)) f ≡ o
-          rows-without k = next-clause u four (λ c. andThen (imposedAll at-first c) f) q rest h (then-some f (rows-found some-row .is) k)
+    in-copy : InArray (n + 1) x
+    in-copy = rw copy (copied-in-array to (u .in-array) (u .room))
 
-          pub rows-with : {y : Zone} → f (zoneIn (n + 1) e) ≡ some y → o ≡ some y
-          rows-with k = this-clause u four (λ c. andThen (imposedAll at-first c) f) q rest h (then-some f (rows-found some-row .is) k)
+    pub first-asks : ImposesClause n x c
+    first-asks = record { in-array = in-copy; clause = u .first }
 
-  pub no-clause-left : (f : Zone → Option Zone) (q : ℕ) {o : Option Zone} → byClause at-first (drop q (conditionOf p)) f ≡ o → p .size ≤ q → o ≡ none
-  no-clause-left f q rest h = no-clause u four (λ c. andThen (imposedAll at-first c) f) q rest h
+    -- r and y are what the first clause answers and leaves
+    module _ {r : Bool} {y : List ℕ} (told : r ≡ isSome (imposedAll (zoneIn (n + 1) x) (clauseOf c)))
+        (left : y ≡ laid x (reached (zoneIn (n + 1) x) (clauseOf c))) where
+      pub pair-none : not r ≡ true → Paired n z c e false y
+      pair-none no-row =
+          let nothing : imposedAll (zoneIn (n + 1) z) (clauseOf c) ≡ none = rw there at (none-of (imposedAll (zoneIn (n + 1) x) (clauseOf c)) told (not-true r no-row)) in (
+            rw (imposed-append (zoneIn (n + 1) z) (clauseOf c) (clauseOf e), nothing),
+            left-zone n in-copy (clauseOf c) (u .first .fit) left ∙ rw there (sym (reached-first (zoneIn (n + 1) z) (clauseOf c) (clauseOf e) nothing)),
+          )
+
+      pub second-asks : ImposesClause n y e
+      second-asks = record { in-array = left-in-array n in-copy (clauseOf c) (u .first .fit) left; clause = u .second }
+
+      pub pair-second : not r ≡ false → {s : Bool} {v : List ℕ} → (s ≡ isSome (imposedAll (zoneIn (n + 1) y) (clauseOf e)))
+          × (v ≡ laid y (reached (zoneIn (n + 1) y) (clauseOf e))) → Paired n z c e s v
+      pair-second some-row (told-2, left-2) =
+          let (w, is) = some-of (imposedAll (zoneIn (n + 1) x) (clauseOf c)) told (not-false r some-row) in
+          let first : imposedAll (zoneIn (n + 1) z) (clauseOf c) ≡ some w =
+          ap (λ (v : Zone). imposedAll v (clauseOf c)) (sym there) ∙ is in
+          let at-w : zoneIn (n + 1) y ≡ w = left-zone n in-copy (clauseOf c) (u .first .fit) left ∙ reached-is (zoneIn (n + 1) x) (clauseOf c) w is in (
+            told-2 ∙ rw (imposed-append (zoneIn (n + 1) z) (clauseOf c) (clauseOf e), first, at-w),
+            left-zone n (second-asks .in-array) (clauseOf e) (u .second .fit) left-2
+                ∙ rw at-w (sym (reached-second (zoneIn (n + 1) z) (clauseOf c) (clauseOf e) w first)),
+          )

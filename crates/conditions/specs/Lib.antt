@@ -1,4 +1,2 @@
-pub mod Breaking
 pub mod Meeting
-pub mod Records
 pub mod Uses

@@ -13,13 +13,14 @@ use Rattle.model.specs.Tables as model
 use Rattle.model.specs.Tables.{Table, columnsOf, tableOf}
 use Rattle.job.specs.declared.Column.{Column}
 use Rattle.job.specs.declared.Clause.{Clause}
+use Rattle.job.specs.declared.Condition.{Condition}
 use Rattle.job.specs.declared.Expression.{Expression}
 use Rattle.job.specs.declared.Job.{Job}
 use Rattle.job.specs.Record.{noColumn, noComparison, noClause}
-use Rattle.job.specs.Meaning.{tableIn, tableNumbers, comparisonRecord, clauseRecord, columnRecords, expressionRecord, meaningOf, recordOf}
+use Rattle.job.specs.Meaning.{tableIn, tableNumbers, comparisonRecord, clauseRecord, conditionRecord, columnRecords, expressionRecord, jobOf, meaningOf, recordOf}
 use Rattle.job.proofs.Meaning.{columns-length}
-use Rattle.job.proofs.Columns.{tables-are, width-is, columns-are, table-is}
-use Rattle.job.proofs.Records.{Sixes, SizedExpression, Sized}
+use Rattle.job.proofs.Declared.{tables-are, width-is, columns-are, table-is}
+use Rattle.job.proofs.Records.{Sixes, SizedCondition, SizedExpression, Sized}
 
 -- an array holds the list that is laid into it
 padded-holds : {A : Type 0} (n : ℕ) (d : A) (l xs : List A) (m : ℕ) → xs ≡ padded n d l → length xs ≡ m → length l ≤ m
@@ -27,28 +28,15 @@ padded-holds n d l xs m is size =
     let long : length xs ≡ length (padded n d l) = ap (λ (ys : List _). length ys) is in
     omega (arith, length-append l (replicate (n - length l) d))
 
--- ---- an expression
-module _ (e : model.Expression) (x : Expression) (is : x ≡ expressionRecord e) (size : SizedExpression x) where
-  pub used-fit : x .tables ≤ 4
-  unfolding expressionRecord
-  used-fit =
-      let count : x .tables ≡ length (e .used) = ap (λ (y : Expression). y .tables) is in
-      omega (arith, padded-holds 4 0 (e .used) (x .used) 4 (ap (λ (y : Expression). y .used) is) (size .used))
-
-  pub outputs-fit : x .width ≤ 16
-  unfolding expressionRecord
-  outputs-fit =
-      let count : x .width ≡ length (e .outputs) = ap (λ (y : Expression). y .width) is in
-      omega (arith, padded-holds 16 0 (e .outputs) (x .outputs) 16 (ap (λ (y : Expression). y .outputs) is) (size .outputs))
-
+-- ---- a condition
+module _ (e : model.Condition) (x : Condition) (is : x ≡ conditionRecord e) (size : SizedCondition x) where
   pub clauses-fit : x .size ≤ 4
-  unfolding expressionRecord
   clauses-fit =
-      let count : x .size ≡ length (e .condition) = ap (λ (y : Expression). y .size) is in
+      let count : x .size ≡ length e = ap (λ (y : Condition). y .size) is in
       omega (
         arith,
-        length-map (e .condition) clauseRecord,
-        padded-holds 4 noClause (map clauseRecord (e .condition)) (x .clauses) 4 (ap (λ (y : Expression). y .clauses) is) (size .clauses),
+        length-map e clauseRecord,
+        padded-holds 4 noClause (map clauseRecord e) (x .clauses) 4 (ap (λ (y : Condition). y .clauses) is) (size .clauses),
       )
 
   abbrev noneAt : Clause
@@ -67,14 +55,31 @@ module _ (e : model.Expression) (x : Expression) (is : x ≡ expressionRecord e)
   sixes-at (c ∷ cs) s (suc q) h = sixes-at cs (s .1) q (omega arith)
 
   each-six : (q : ℕ) → Six (getD (x .clauses) q noneAt)
-  unfolding expressionRecord
   each-six q =
-      rw is (padded-each Six noClause noneAt (λ h. omega arith) (λ h. omega arith) 4 (map clauseRecord (e .condition)) (λ c m.
-      let (k, j, p) = Memᴰ·of-map clauseRecord (e .condition) m in
+      rw is (padded-each Six noClause noneAt (λ h. omega arith) (λ h. omega arith) 4 (map clauseRecord e) (λ c m.
+      let (k, j, p) = Memᴰ·of-map clauseRecord e m in
       rw (← p) (clause-six k)) q)
 
   pub comparisons-fit : (q : ℕ) → q < 4 → getD (x .clauses) q (record { size = 0; comparisons = [] }) .size ≤ 6
   comparisons-fit q h = each-six q (sixes-at (x .clauses) (size .comparisons) q (omega (arith, size .clauses)))
+
+-- ---- an expression
+module _ (e : model.Expression) (x : Expression) (is : x ≡ expressionRecord e) (size : SizedExpression x) where
+  pub used-fit : x .tables ≤ 4
+  unfolding expressionRecord
+  used-fit =
+      let count : x .tables ≡ length (e .used) = ap (λ (y : Expression). y .tables) is in
+      omega (arith, padded-holds 4 0 (e .used) (x .used) 4 (ap (λ (y : Expression). y .used) is) (size .used))
+
+  pub outputs-fit : x .width ≤ 16
+  unfolding expressionRecord
+  outputs-fit =
+      let count : x .width ≡ length (e .outputs) = ap (λ (y : Expression). y .width) is in
+      omega (arith, padded-holds 16 0 (e .outputs) (x .outputs) 16 (ap (λ (y : Expression). y .outputs) is) (size .outputs))
+
+  pub condition-is : x .condition ≡ conditionRecord (e .condition)
+  unfolding expressionRecord
+  condition-is = ap (λ (y : Expression). y .condition) is
 
 -- ---- a job
 table-below : (ts : List Table) (c : ℕ) → c < length (columnsOf ts) → tableOf ts c < length ts
@@ -88,7 +93,7 @@ table-below (b ∷ bs) c h = go (ltb c (length b)) refl (table-below bs (c - len
 
 module _ (r : Job) (laid : recordOf (meaningOf r) ≡ r) where
   pub tables-fit : r .tables ≤ 4
-  unfolding meaningOf
+  unfolding jobOf
   tables-fit =
       omega (arith, tables-are r laid, length-map (take (r .tables) tableNumbers) (tableIn (take (r .width) (r .columns))), length-take (r .tables) tableNumbers)
 

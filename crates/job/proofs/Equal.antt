@@ -15,9 +15,10 @@ use Rattle.words.proofs.Order.{eqZ-is, eqZ-refl}
 use Rattle.job.specs.declared.Column.{Column}
 use Rattle.job.specs.declared.Comparison.{Comparison}
 use Rattle.job.specs.declared.Clause.{Clause}
+use Rattle.job.specs.declared.Condition.{Condition}
 use Rattle.job.specs.declared.Expression.{Expression}
 use Rattle.job.specs.declared.Job.{Job}
-use Rattle.job.specs.Same.{sameColumn, sameComparison, sameClause, sameExpression, sameJob}
+use Rattle.job.specs.Same.{sameColumn, sameComparison, sameClause, sameCondition, sameExpression, sameJob}
 
 -- ---- alike, so equal
 column-is : (a b : Column) → T (sameColumn a b) → a ≡ b
@@ -53,6 +54,15 @@ clause-is a b t₀ =
     let all : _≡_ {A = Clause} (record { size = a .size; comparisons = a .comparisons }) (record { size = b .size; comparisons = b .comparisons }) = cc in
     all
 
+condition-is : (a b : Condition) → T (sameCondition a b) → a ≡ b
+unfolding sameCondition
+condition-is a b t₀ =
+    let t₁ = and-yes (eqb (a .size) (b .size)) _ t₀ in
+    let size-is : a .size ≡ b .size = eqb→eq _ _ (t₁ .0) in
+    let clauses-is : a .clauses ≡ b .clauses = pairwise-is sameClause clause-is _ _ (t₁ .1) in
+    let all : _≡_ {A = Condition} (record { size = a .size; clauses = a .clauses }) (record { size = b .size; clauses = b .clauses }) = cc in
+    all
+
 expression-is : (a b : Expression) → T (sameExpression a b) → a ≡ b
 unfolding sameExpression
 expression-is a b t₀ =
@@ -64,10 +74,10 @@ expression-is a b t₀ =
     let width-is : a .width ≡ b .width = eqb→eq _ _ (t₃ .0) in
     let t₄ = and-yes (pairwise eqb (a .outputs) (b .outputs)) _ (t₃ .1) in
     let outputs-is : a .outputs ≡ b .outputs = pairwise-is eqb eqb→eq _ _ (t₄ .0) in
-    let t₅ = and-yes (eqb (a .size) (b .size)) _ (t₄ .1) in
-    let size-is : a .size ≡ b .size = eqb→eq _ _ (t₅ .0) in
-    let clauses-is : a .clauses ≡ b .clauses = pairwise-is sameClause clause-is _ _ (t₅ .1) in
-    let all : _≡_ {A = Expression} (record { tables = a .tables; used = a .used; width = a .width; outputs = a .outputs; size = a .size; clauses = a .clauses }) (record { tables = b .tables; used = b .used; width = b .width; outputs = b .outputs; size = b .size; clauses = b .clauses }) = cc in
+    let condition-equal : a .condition ≡ b .condition = condition-is _ _ (t₄ .1) in
+    let all : _≡_ {A = Expression}
+    (record { tables = a .tables; used = a .used; width = a .width; outputs = a .outputs; condition = a .condition })
+    (record { tables = b .tables; used = b .used; width = b .width; outputs = b .outputs; condition = b .condition }) = cc in
     all
 
 pub same-is : (a b : Job) → T (sameJob a b) → a ≡ b
@@ -108,6 +118,10 @@ clause-same : (a : Clause) → sameClause a a ≡ true
 unfolding sameClause
 clause-same a = rw (number-same (a .size), list-same sameComparison comparison-same (a .comparisons))
 
+condition-same : (a : Condition) → sameCondition a a ≡ true
+unfolding sameCondition
+condition-same a = rw (number-same (a .size), list-same sameClause clause-same (a .clauses))
+
 expression-same : (a : Expression) → sameExpression a a ≡ true
 unfolding sameExpression
 expression-same a =
@@ -116,8 +130,7 @@ expression-same a =
       list-same eqb number-same (a .used),
       number-same (a .width),
       list-same eqb number-same (a .outputs),
-      number-same (a .size),
-      list-same sameClause clause-same (a .clauses),
+      condition-same (a .condition),
     )
 
 pub same-self : (a : Job) → sameJob a a ≡ true

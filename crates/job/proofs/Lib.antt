@@ -3,5 +3,5 @@ pub mod Alike
 pub mod Equal
 pub mod Tidy
 pub mod Records
-pub mod Columns
+pub mod Declared
 pub mod Counts

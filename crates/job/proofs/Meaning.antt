@@ -5,16 +5,17 @@ use mathlib.Core.List.{List, [], _∷_, _++_, map, append-nil}
 use Prim.Native.Nat.{ℕ, zero, suc, _+_, _<_, _≤_}
 use native.Mathlib.Omega.{arith}
 use native.Mathlib.Nat.{add-zero}
+use native.Mathlib.Numerals.{sub-one}
 use lib.ListN.{length, take, getD, length-append, length-map}
 use borrow.Author.Tests.{eq-eqb, ne-eqb}
 use Rattle.base.proofs.Lists.{map-back}
 use Rattle.base.proofs.Arrays.{take-padded}
 use Rattle.model.specs.Tables as model
-use Rattle.model.specs.Tables.{Table, columnsOf}
-use Rattle.model.proofs.Theorems.{op-number, side-number}
+use Rattle.model.specs.Tables.{Table, Against, column, number, columnsOf}
+use Rattle.words.proofs.Ops.{op-number}
 use Rattle.job.specs.declared.Column.{Column}
 use Rattle.job.specs.Record.{noComparison, noClause, noColumn}
-use Rattle.job.specs.Meaning.{tableIn, tableNumbers, columnRecord, columnRecords, comparisonOf, comparisonRecord, clauseOf, clauseRecord, expressionOf, expressionRecord, meaningOf, recordOf}
+use Rattle.job.specs.Meaning.{sideOf, sideNumber, sideValue, conditionOf, conditionRecord, jobOf, tableIn, tableNumbers, columnRecord, columnRecords, comparisonOf, comparisonRecord, clauseOf, clauseRecord, expressionOf, expressionRecord, meaningOf, recordOf}
 
 -- ---- tables
 pub table-number : (t : ℕ) → t < 4 → getD tableNumbers t 0 ≡ t
@@ -58,13 +59,21 @@ tables-back (a ∷ b ∷ c ∷ d ∷ []) h = let ts = a ∷ b ∷ c ∷ d ∷ []
 tables-back (a ∷ b ∷ c ∷ d ∷ e ∷ ts) h = absurd (omega arith)
 
 -- ---- expressions
+side-back : (a : Against) → sideOf (sideNumber a) (sideValue a) ≡ a
+side-back (column c) = rw (ne-eqb (suc c) 0 (λ e. omega arith), sub-one)
+side-back (number v) = refl
+
 comparison-back : (k : model.Comparison) → comparisonOf (comparisonRecord k) ≡ k
-comparison-back k = rw (op-number (k .op), side-number (k .right))
+comparison-back k = rw (op-number (k .op), side-back (k .right))
 
 clause-back : (c : model.Clause) → clauseOf (clauseRecord c) ≡ c
 clause-back c =
     rw (take-padded 6 noComparison (map comparisonRecord c) (length c) (rw (length-map c comparisonRecord)))
     (map-back comparisonRecord comparisonOf comparison-back c)
+
+pub condition-back : (k : model.Condition) → conditionOf (conditionRecord k) ≡ k
+condition-back k =
+    rw (take-padded 4 noClause (map clauseRecord k) (length k) (rw (length-map k clauseRecord))) (map-back clauseRecord clauseOf clause-back k)
 
 pub expression-back : (e : model.Expression) → expressionOf (expressionRecord e) ≡ e
 unfolding expressionOf expressionRecord
@@ -72,13 +81,12 @@ expression-back e =
     rw (
       take-padded 4 0 (e .used) _ refl,
       take-padded 16 0 (e .outputs) _ refl,
-      take-padded 4 noClause (map clauseRecord (e .condition)) (length (e .condition)) (rw (length-map (e .condition) clauseRecord)),
-      map-back clauseRecord clauseOf clause-back (e .condition),
+      condition-back (e .condition),
     )
 
 -- ---- jobs
 pub meaning-record : (j : model.Job) → length (j .tables) ≤ 4 → meaningOf (recordOf j) ≡ j
-unfolding meaningOf recordOf
+unfolding jobOf recordOf
 meaning-record j h =
     rw (
       take-padded 16 noColumn (columnRecords 0 (j .tables)) (length (columnsOf (j .tables))) (rw (columns-length 0 (j .tables))),

@@ -7,10 +7,14 @@ use denote.Array.{each}
 use denote.Laws.{Is}
 use denote.Shadow.{shadow}
 use Rattle.job.specs.declared.Clause.{Clause}
+use Rattle.job.specs.declared.Condition.{Condition}
 use Rattle.job.specs.declared.Expression.{Expression}
+use Rattle.job.specs.declared.Columns.{Columns}
 use Rattle.job.specs.declared.Job.{Job}
 use Rattle.job.proofs.Clause as clause
+use Rattle.job.proofs.Condition as condition
 use Rattle.job.proofs.Expression as expression
+use Rattle.job.proofs.Columns as columns
 use Rattle.job.proofs.Job as job
 
 -- each has an array of six comparisons
@@ -18,11 +22,14 @@ abbrev pub Sixes : List Clause → Type 0
 Sixes [] = Unit {0}
 Sixes (c ∷ cs) = (length (c .comparisons) ≡ 6) × Sixes cs
 
+pub record SizedCondition (k : Condition) : Type 0 where
+  pub clauses : length (k .clauses) ≡ 4
+  pub comparisons : Sixes (k .clauses)
+
 pub record SizedExpression (e : Expression) : Type 0 where
   pub used : length (e .used) ≡ 4
   pub outputs : length (e .outputs) ≡ 16
-  pub clauses : length (e .clauses) ≡ 4
-  pub comparisons : Sixes (e .clauses)
+  pub condition : SizedCondition (e .condition)
 
 pub record Sized (r : Job) : Type 0 where
   pub columns : length (r .columns) ≡ 16
@@ -37,15 +44,17 @@ sixes [] us h = tt
 sixes (c ∷ cs) [] h = absurd h
 sixes (c ∷ cs) (u ∷ us) h = (six c (u ∷ []) (h .0), sixes cs us (h .1))
 
+pub sized-condition : (k : Condition) (vs : List Val) → Is condition.the-row k vs → SizedCondition k
+sized-condition k vs h =
+    let clauses = h .1 .1 .1 .0 .1 in
+    record { clauses = sym (length-map (k .clauses) _) ∙ clauses .0 .1; comparisons = sixes (k .clauses) _ (clauses .1) }
+
 pub sized-expression : (e : Expression) (vs : List Val) → Is expression.the-row e vs → SizedExpression e
-sized-expression e vs h =
-    let clauses = h .1 .1 .1 .1 .1 .1 .1 .0 .1 in
-    record {
-      used = sym (length-map (e .used) _) ∙ h .1 .1 .1 .0 .1 .0 .1;
-      outputs = sym (length-map (e .outputs) _) ∙ h .1 .1 .1 .1 .1 .0 .1 .0 .1;
-      clauses = sym (length-map (e .clauses) _) ∙ clauses .0 .1;
-      comparisons = sixes (e .clauses) _ (clauses .1);
-    }
+sized-expression e vs h = record {
+  used = sym (length-map (e .used) _) ∙ h .1 .1 .1 .0 .1 .0 .1;
+  outputs = sym (length-map (e .outputs) _) ∙ h .1 .1 .1 .1 .1 .0 .1 .0 .1;
+  condition = sized-condition (e .condition) _ (h .1 .1 .1 .1 .1 .1 .0);
+}
 
 pub sized : (r : Job) (vs : List Val) → Is job.the-row r vs → Sized r
 sized r vs h = record {
@@ -53,3 +62,6 @@ sized r vs h = record {
   extract = sized-expression (r .extract) _ (h .1 .1 .1 .1 .1 .0);
   query = sized-expression (r .query) _ (h .1 .1 .1 .1 .1 .1 .0);
 }
+
+pub sized-columns : (k : Columns) (vs : List Val) → Is columns.the-row k vs → length (k .columns) ≡ 16
+sized-columns k vs h = sym (length-map (k .columns) _) ∙ h .1 .1 .1 .1 .0 .1 .0 .1

@@ -9,8 +9,8 @@ use Rattle.base.specs.Lists.{_∈_}
 use Rattle.base.specs.Arrays.{EmptyPast}
 use Rattle.model.specs.Tables as model
 use Rattle.job.specs.declared.Clause.{Clause}
-use Rattle.job.specs.Record.{noColumn, noComparison, noClause, TidyExpression, Tidy}
-use Rattle.job.specs.Meaning.{comparisonRecord, clauseRecord, expressionRecord, columnRecords, recordOf}
+use Rattle.job.specs.Record.{noColumn, noComparison, noClause, TidyCondition, TidyExpression, Tidy}
+use Rattle.job.specs.Meaning.{comparisonRecord, clauseRecord, conditionRecord, expressionRecord, columnRecords, recordOf}
 use Rattle.job.proofs.Meaning.{columns-length}
 
 clause-past : (c : model.Clause) → EmptyPast 6 noComparison (length c) (clauseRecord c .comparisons)
@@ -27,13 +27,19 @@ empty-past zero c m = absurd (List·Memᴰ·not-nil m)
 empty-past (suc n) c (List·Memᴰ·head e) = rw e refl
 empty-past (suc n) c (List·Memᴰ·tail m) = empty-past n c m
 
+condition-tidy : (k : model.Condition) → TidyCondition (conditionRecord k)
+condition-tidy k = record {
+  clauses = drop-padded 4 noClause (map clauseRecord k) _ (sym (length-map k clauseRecord));
+  comparisons = λ c m.
+      ⊎-elim (clauses-past k c) (empty-past (4 - length (map clauseRecord k)) c) (List·Memᴰ·append-cases (map clauseRecord k) m);
+}
+
 expression-tidy : (e : model.Expression) → TidyExpression (expressionRecord e)
 unfolding expressionRecord
 expression-tidy e = record {
   used = drop-padded 4 0 (e .used) _ refl;
   outputs = drop-padded 16 0 (e .outputs) _ refl;
-  clauses = drop-padded 4 noClause (map clauseRecord (e .condition)) _ (sym (length-map (e .condition) clauseRecord));
-  comparisons = λ c m. ⊎-elim (clauses-past (e .condition) c) (empty-past (4 - length (map clauseRecord (e .condition))) c) (List·Memᴰ·append-cases (map clauseRecord (e .condition)) m);
+  condition = condition-tidy (e .condition);
 }
 
 pub record-tidy : (j : model.Job) → Tidy (recordOf j)

@@ -6,6 +6,7 @@ use Rattle.words.specs.Compare.{eqZ}
 use Rattle.job.specs.declared.Column.{Column}
 use Rattle.job.specs.declared.Comparison.{Comparison}
 use Rattle.job.specs.declared.Clause.{Clause}
+use Rattle.job.specs.declared.Condition.{Condition}
 use Rattle.job.specs.declared.Expression.{Expression}
 use Rattle.job.specs.declared.Job.{Job}
 
@@ -18,11 +19,14 @@ sameComparison a b = eqb (a .op) (b .op) && (eqb (a .left) (b .left) && (eqb (a 
 unfoldable pub sameClause : Clause → Clause → Bool
 sameClause a b = eqb (a .size) (b .size) && pairwise sameComparison (a .comparisons) (b .comparisons)
 
+unfoldable pub sameCondition : Condition → Condition → Bool
+sameCondition a b = eqb (a .size) (b .size) && pairwise sameClause (a .clauses) (b .clauses)
+
 unfoldable pub sameExpression : Expression → Expression → Bool
 sameExpression a b =
     eqb (a .tables) (b .tables) && (pairwise eqb (a .used) (b .used)
     && (eqb (a .width) (b .width) && (pairwise eqb (a .outputs) (b .outputs)
-    && (eqb (a .size) (b .size) && pairwise sameClause (a .clauses) (b .clauses)))))
+    && sameCondition (a .condition) (b .condition))))
 
 unfoldable pub sameJob : Job → Job → Bool
 sameJob a b =

@@ -1,10 +1,8 @@
 // A job as a record of fixed size, passed by value. specs/Meaning.antt says which job of document 01 a record stands for.
 ghost use mathlib.Core.Path.{_≡_};
-ghost use lib.ListN.{length};
-ghost use lib.Dec.{eqb};
 ghost use Rattle.base.specs.Lists.{pairwise};
 ghost use Rattle.job.specs.Record.{noExpression, noJob};
-ghost use Rattle.job.specs.Same.{sameColumn, sameComparison, sameClause, sameExpression, sameJob};
+ghost use Rattle.job.specs.Same.{sameColumn, sameComparison, sameClause, sameCondition, sameExpression, sameJob};
 
 // A column: its table, and its bounds.
 pub struct Column {
@@ -13,7 +11,8 @@ pub struct Column {
     pub hi: i32,
 }
 
-// A comparison by an op. Right is 0 where the left column is compared with the number, else one more than the column that it is compared with.
+// A comparison by an op. Right is 0 where the left column is compared with the number, else one more than the column that it is compared
+// with.
 pub struct Comparison {
     pub op: u8,
     pub left: u8,
@@ -27,14 +26,27 @@ pub struct Clause {
     pub comparisons: [Comparison; Job::COMPARISONS],
 }
 
-// The first `tables` of the used tables, the first `width` of the output columns, the first `size` of the clauses.
+// The first `size` of the clauses.
+pub struct Condition {
+    pub size: usize,
+    pub clauses: [Clause; Job::CLAUSES],
+}
+
+// The first `tables` of the used tables, the first `width` of the output columns, and the condition.
 pub struct Expression {
     pub tables: usize,
     pub used: [u8; Job::TABLES],
     pub width: usize,
     pub outputs: [u8; Job::COLUMNS],
-    pub size: usize,
-    pub clauses: [Clause; Job::CLAUSES],
+    pub condition: Condition,
+}
+
+// What is declared: the number of tables, and the first `width` of the columns. An extract and a query are decided over it, whatever
+// record they were read into.
+pub struct Columns {
+    pub tables: usize,
+    pub width: usize,
+    pub columns: [Column; Job::COLUMNS],
 }
 
 // The number of tables, the first `width` of the columns, and the two expressions.
@@ -94,13 +106,16 @@ fn no_expression() -> Expression
         size: 0,
         comparisons: [comparison; Job::COMPARISONS],
     };
+    let condition = Condition {
+        size: 0,
+        clauses: [clause; Job::CLAUSES],
+    };
     Expression {
         tables: 0,
         used: [0; Job::TABLES],
         width: 0,
         outputs: [0; Job::COLUMNS],
-        size: 0,
-        clauses: [clause; Job::CLAUSES],
+        condition,
     }
 }
 
@@ -164,9 +179,12 @@ fn same_clause(a: Clause, b: Clause) -> bool
     true
 }
 
-fn same_clauses(a: Expression, b: Expression) -> bool
-    ensures { λ r. ⌜ r ≡ pairwise sameClause (a .clauses) (b .clauses) ⌝ }
+fn same_condition(a: Condition, b: Condition) -> bool
+    ensures { λ r. ⌜ r ≡ sameCondition a b ⌝ }
 {
+    if a.size != b.size {
+        return false;
+    }
     let x = a.clauses;
     let y = b.clauses;
     let mut i = 0;
@@ -194,10 +212,9 @@ fn same_expression(a: Expression, b: Expression) -> bool
     if !base::same_bytes(&a.outputs, &b.outputs) {
         return false;
     }
-    if a.size != b.size {
-        return false;
-    }
-    same_clauses(a, b)
+    let first = a.condition;
+    let second = b.condition;
+    same_condition(first, second)
 }
 
 // Whether two records are alike, entry by entry.

@@ -1,16 +1,16 @@
 // Reads jobs from standard input, and writes an answer to each to standard output.
 //
 // A job is two bytes, the number of its bytes, and then those. An answer is a byte, the number of the refusal or 0, and four bytes: the
-// refusal's position or, with 0, the number of bytes that the job is written as; and then those, and the verdict. A verdict is the kind, a byte
-// for each of 16 columns, and two databases: for each of 4 tables a byte, 1 where it has its row, and for each column its value in four bytes.
-// All numbers have their low byte first. Where the input ends within a job, nothing more is answered.
+// refusal's position or, with 0, the number of bytes that the job is written as; and then those, and the verdict. A verdict is the kind,
+// a byte for each of 16 columns, and two databases: for each of 4 tables a byte, 1 where it has its row, and for each column its value in
+// four bytes. All numbers have their low byte first. Where the input ends within a job, nothing more is answered.
+use databases::Database;
 use job::Job;
 use libc::STDIN_FILENO;
 use libc::STDOUT_FILENO;
 use pobghine::Decision;
 use pobghine::Written;
 use reader::Answer;
-use verdict::Database;
 ghost use Prim.Native.Nat.{_+_, _<_, _≤_};
 ghost use lib.ListN.{length};
 

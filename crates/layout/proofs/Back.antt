@@ -32,7 +32,8 @@ module _ (s : List ℕ) where
   one-more n i j h e = rw (← e, add-one, drop-cons s i 0 h)
 
   -- a value and those from the place behind it
-  value-more : (w n i j : ℕ) → Bytes s → i + w ≤ length s → i + w ≡ j → take (w + n) (drop i s) ≡ encoded w (valueAt w s i) ++ take n (drop j s)
+  value-more : (w n i j : ℕ) → Bytes s → i + w ≤ length s → i + w ≡ j
+      → take (w + n) (drop i s) ≡ encoded w (valueAt w s i) ++ take n (drop j s)
   value-more w n i j b h e =
       rw (
         ← e,
@@ -45,7 +46,8 @@ module _ (s : List ℕ) where
   value-last i b h = value-more 4 0 i (i + 4) b h refl ∙ append-nil _
 
   -- a command's bytes
-  entry-bytes : (c : Command) (at : ℕ) → Bytes s → at + 1 + operands c ≤ length s → byteOf c ∷ take (operands c) (drop (at + 1) s) ≡ entryBytes (entryAt c s at)
+  entry-bytes : (c : Command) (at : ℕ) → Bytes s → at + 1 + operands c ≤ length s
+      → byteOf c ∷ take (operands c) (drop (at + 1) s) ≡ entryBytes (entryAt c s at)
   entry-bytes NextTable at b h = refl
   entry-bytes NextColumn at b h =
       ap (_∷_ 0x11) (value-more 4 4 (at + 1) (at + 5) b (omega arith) (omega arith)

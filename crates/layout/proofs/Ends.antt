@@ -74,7 +74,9 @@ sound-end st s l =
     let (x, xl) = s .finished q in
     let (y, yl) = begun-formed (st .job .tables) (st .last) (st .job .query) (rw q at (s .begun)) (omega arith) in
     let (some, each) = s .filled (omega arith) in
-    let ordered = all-concat (λ b. leZ (b .lo) (b .hi)) ts (all-weaker full (λ b. leZ (b .lo) (b .hi)) (λ b t. (parts b t) .1) (columnsOf ts) (s .bounds)) in
+    let ordered =
+    all-concat (λ b. leZ (b .lo) (b .hi)) ts
+    (all-weaker full (λ b. leZ (b .lo) (b .hi)) (λ b t. (parts b t) .1) (columnsOf ts) (s .bounds)) in
     let tables = all-both (λ t. not (isEmpty t)) (allOf (λ b. leZ (b .lo) (b .hi))) ts each ordered in
     let ranges = all-weaker full (λ b. inRange (b .lo) && inRange (b .hi)) (λ b t. (parts b t) .0) (columnsOf ts) (s .bounds) in
     let t₁ = le→leb 1 (length ts) (some-tables ts some) in

@@ -15,7 +15,7 @@ use Rattle.layout.specs.Sound.{Begun, Sound}
 use Rattle.base.specs.Lists.{allOf, flatMap}
 use Rattle.base.proofs.Lists.{flatMap-append}
 use Rattle.model.specs.Tables.{Table, Against, column, number, Clause, Condition, Expression, Job, columnsOf}
-use Rattle.model.specs.Coded.{numberOfOp}
+use Rattle.words.specs.Compare.{numberOfOp}
 use Rattle.model.proofs.Formed.{Formed, Limited, is-formed, is-limited}
 use Rattle.layout.specs.declared.Command.{Command}
 use Rattle.layout.specs.declared.Command.the-variants.{NextTable, NextColumn, ExtractBegins, QueryBegins, TableUsed, OutputColumn, NextClause, NumberCompared, ColumnCompared, End}
@@ -38,7 +38,8 @@ size-more : (xs : List Entry) (x : Entry) → size (xs ++ x ∷ []) ≡ size xs 
 size-more xs x = rw (size-append xs (x ∷ []), length-append (entryBytes x) []) (omega arith)
 
 -- at most k bytes for each element
-size-map : {A : Type 0} (f : A → Entry) (k : ℕ) → ((x : A) → length (entryBytes (f x)) ≤ k) → (xs : List A) → size (map f xs) ≤ length xs * k
+size-map : {A : Type 0} (f : A → Entry) (k : ℕ) → ((x : A) → length (entryBytes (f x)) ≤ k) → (xs : List A)
+    → size (map f xs) ≤ length xs * k
 size-map f k h [] = omega arith
 size-map f k h (x ∷ xs) =
     rw (length-append (entryBytes (f x)) (flatMap (map f xs) entryBytes), suc-mul (length xs) k) (omega (arith, h x, size-map f k h xs))
@@ -55,7 +56,11 @@ side-most o l (number v) = omega arith
 
 clause-size : (c : Clause) → length c ≤ 6 → size (clauseEntries c) ≤ 43
 clause-size c h =
-    omega (arith, size-map (λ k. addComparison (numberOfOp (k .op)) (k .left) (k .right)) 7 (λ k. side-most (numberOfOp (k .op)) (k .left) (k .right)) c)
+    omega (
+      arith,
+      size-map (λ k. addComparison (numberOfOp (k .op)) (k .left) (k .right)) 7
+          (λ k. side-most (numberOfOp (k .op)) (k .left) (k .right)) c,
+    )
 
 condition-size : (k : Condition) → T (allOf (λ c. leb (length c) 6) k) → size (flatMap k clauseEntries) ≤ length k * 43
 condition-size [] t = omega arith
@@ -81,10 +86,11 @@ formed-begun ts e f l = record {
   no-outputs = λ k. absurd (omega arith);
   some-outputs = λ k. f .some-outputs;
   no-clauses = λ k. absurd (omega arith);
-  some-clauses = λ k m. absurd (omega arith);
+  some-clauses = λ t. absurd t;
 }
 
-begun-size : {ts : List Table} {l : ℕ} {e : Expression} → length ts ≤ 4 → length (columnsOf ts) ≤ 16 → Begun ts l e → size (expressionEntries e) ≤ 212
+begun-size : {ts : List Table} {l : ℕ} {e : Expression} → length ts ≤ 4 → length (columnsOf ts) ≤ 16 → Begun ts l e
+    → size (expressionEntries e) ≤ 212
 unfolding expressionEntries
 begun-size {e = e} few columns b =
     let used = map useTable (e .used) in
@@ -244,7 +250,8 @@ module _ (n : ℕ) (s : List ℕ) (enough : 588 ≤ n) (long : n ≤ length s) w
 
   first-enough : readOf (take n s) ≡ readOf s
   unfolding readOf
-  first-enough = rw (first-length, take-take 4 n s (omega arith), from-same n (length s) 4 atStart start-reached (omega arith) (omega arith))
+  first-enough =
+      rw (first-length, take-take 4 n s (omega arith), from-same n (length s) 4 atStart start-reached (omega arith) (omega arith))
 
 pub read-enough : (s : List ℕ) → 600 ≤ length s → readOf (take 600 s) ≡ readOf s
 read-enough s h = first-enough 600 s (omega arith) h

@@ -14,14 +14,14 @@ use Rattle.base.specs.Lists.{flatMap, isEmpty, inLast}
 use Rattle.base.proofs.Lists.{flatMap-append, some-snoc}
 use Rattle.words.specs.Word.{valueAt}
 use Rattle.model.specs.Tables.{Bounds, Table, Against, column, number, Comparison, Clause, Expression, Job}
-use Rattle.model.specs.Coded.{opAt}
-use Rattle.model.proofs.Theorems.{op-back}
+use Rattle.words.specs.Compare.{opAt}
+use Rattle.words.proofs.Ops.{op-back}
 use Rattle.layout.specs.declared.Command.{Command}
 use Rattle.layout.specs.declared.Command.the-variants.{NextTable, NextColumn, ExtractBegins, QueryBegins, TableUsed, OutputColumn, NextClause, NumberCompared, ColumnCompared, End}
-use Rattle.layout.specs.Commands.{inClause, ending, Entry, addTable, addColumn, mark, useTable, addOutput, addClause, addComparison, entryAt}
+use Rattle.layout.specs.Commands.{Entry, addTable, addColumn, mark, useTable, addOutput, addClause, addComparison, entryAt}
 use Rattle.layout.specs.Reading.{State, current, follows, withUsed, withOutput, withCondition, withCurrent, after}
 use Rattle.layout.specs.Writing.{tableEntries, clauseEntries, expressionEntries, entriesOf}
-use Rattle.layout.proofs.Growing.{either, among}
+use Rattle.layout.proofs.Growing.{either, among, in-condition, at-ending}
 use Rattle.layout.proofs.Given.{byteOf, Given}
 
 -- ---- one more element, one more in the last list
@@ -70,17 +70,21 @@ abbrev endPart : ℕ → List Entry
 endPart l = cond (eqb l 0xFF) (mark 0xFF ∷ []) []
 
 unfoldable pub soFar : State → List Entry
-soFar st = flatMap (st .job .tables) tableEntries ++ extractPart (st .last) (st .job .extract) ++ queryPart (st .inQuery) (st .job .query) ++ endPart (st .last)
+soFar st =
+    flatMap (st .job .tables) tableEntries ++ extractPart (st .last) (st .job .extract) ++ queryPart (st .inQuery) (st .job .query)
+    ++ endPart (st .last)
 
 -- ---- each command adds its entry
 
 -- a command in an expression
 in-part : (l d : ℕ) (q : Bool) (j : Job) (e : Expression) (x : Entry) → 0x20 ≤ l → l ≤ 0x42 → 0x30 ≤ d → d ≤ 0x42
     → expressionEntries e ≡ expressionEntries (cond q (j .query) (j .extract)) ++ x ∷ []
-    → soFar (record { last = d; inQuery = q || eqb d 0x21; job = withCurrent q j e }) ≡ soFar (record { last = l; inQuery = q; job = j }) ++ x ∷ []
+    → soFar (record { last = d; inQuery = q || eqb d 0x21; job = withCurrent q j e })
+    ≡ soFar (record { last = l; inQuery = q; job = j }) ++ x ∷ []
 unfolding soFar
 in-part l d true j e x lo hi f g h =
-    rw (le-leb 0x20 l lo, le-leb 0x20 d (omega arith), ne-eqb l 0xFF (λ z. omega arith), ne-eqb d 0xFF (λ z. omega arith), h) (simp (append-nil, append-assoc))
+    rw (le-leb 0x20 l lo, le-leb 0x20 d (omega arith), ne-eqb l 0xFF (λ z. omega arith), ne-eqb d 0xFF (λ z. omega arith), h)
+    (simp (append-nil, append-assoc))
 in-part l d false j e x lo hi f g h =
     rw (
       le-leb 0x20 l lo,
@@ -144,36 +148,39 @@ module _ (st : State) (s : Sound st) where
 
   more-clause : T (follows st NextClause) → soFar (after 0x40 addClause st) ≡ soFar st ++ addClause ∷ []
   more-clause f =
-      let (lo, hi) = among (st .last) 0x31 0x42 ending f tt in
+      let (lo, hi) = at-ending (st .last) f in
       in-part (st .last) 0x40 (st .inQuery) (st .job) _ addClause (omega arith) hi (omega arith) (omega arith) (entries-clause (current st))
 
   more-comparison : (d o l : ℕ) (r : Against) → 0x41 ≤ d → d ≤ 0x42 → T (follows st NumberCompared) → T (leb o 4)
       → soFar (after d (addComparison o l r) st) ≡ soFar st ++ addComparison o l r ∷ []
   more-comparison d o l r g h f k =
-      let (lo, hi) = among (st .last) 0x40 0x42 inClause f tt in
+      let (lo, hi) = in-condition (st .last) f in
       in-part (st .last) d (st .inQuery) (st .job) _ (addComparison o l r) (omega arith) hi (omega arith) h
-      (entries-comparison (current st) o l r (leb→le o 4 k) (s .begun .some-clauses lo hi))
+      (entries-comparison (current st) o l r (leb→le o 4 k) (s .begun .some-clauses f))
 
 more-query : (l : ℕ) (q : Bool) (j : Job) → Sound (record { last = l; inQuery = q; job = j })
     → T (follows (record { last = l; inQuery = q; job = j }) QueryBegins)
-    → soFar (after 0x21 (mark 0x21) (record { last = l; inQuery = q; job = j })) ≡ soFar (record { last = l; inQuery = q; job = j }) ++ mark 0x21 ∷ []
+    → soFar (after 0x21 (mark 0x21) (record { last = l; inQuery = q; job = j }))
+    ≡ soFar (record { last = l; inQuery = q; job = j }) ++ mark 0x21 ∷ []
 unfolding soFar expressionEntries
 more-query l true j s f = absurd f
 more-query l false j s f =
-    let (lo, hi) = among l 0x31 0x42 ending f tt in
+    let (lo, hi) = at-ending l f in
     rw (le-leb 0x20 l (omega arith), ne-eqb l 0xFF (λ z. omega arith), s .waiting refl) (simp (append-nil, append-assoc))
 
 more-last : (l : ℕ) (q : Bool) (j : Job) → T (follows (record { last = l; inQuery = q; job = j }) End)
-    → soFar (after 0xFF (mark 0xFF) (record { last = l; inQuery = q; job = j })) ≡ soFar (record { last = l; inQuery = q; job = j }) ++ mark 0xFF ∷ []
+    → soFar (after 0xFF (mark 0xFF) (record { last = l; inQuery = q; job = j }))
+    ≡ soFar (record { last = l; inQuery = q; job = j }) ++ mark 0xFF ∷ []
 unfolding soFar
 more-last l false j f = absurd f
 more-last l true j f =
-    let (lo, hi) = among l 0x31 0x42 ending f tt in
+    let (lo, hi) = at-ending l f in
     rw (le-leb 0x20 l (omega arith), ne-eqb l 0xFF (λ z. omega arith)) (simp append-nil)
 
 -- a command that passed its checks
 module _ (s : List ℕ) (at at' : ℕ) (st st' : State) where
-  given-more : (c : Command) → Sound st → Given s at st at' st' c → soFar (after (byteOf c) (entryAt c s at) st) ≡ soFar st ++ entryAt c s at ∷ []
+  given-more : (c : Command) → Sound st → Given s at st at' st' c
+      → soFar (after (byteOf c) (entryAt c s at) st) ≡ soFar st ++ entryAt c s at ∷ []
   given-more NextTable h g = more-table st h (g .follow)
   given-more NextColumn h g = more-column st h (valueAt 4 s (at + 1)) (valueAt 4 s (at + 5)) (g .follow)
   given-more ExtractBegins h g = more-extract st h (g .follow)
@@ -182,9 +189,11 @@ module _ (s : List ℕ) (at at' : ℕ) (st st' : State) where
   given-more OutputColumn h g = more-output st h (getD s (at + 1) 0) (g .follow)
   given-more NextClause h g = more-clause st h (g .follow)
   given-more NumberCompared h g =
-      more-comparison st h 0x41 (getD s (at + 1) 0) (getD s (at + 2) 0) (number (valueAt 4 s (at + 3))) (omega arith) (omega arith) (g .follow) (g .known)
+      more-comparison st h 0x41 (getD s (at + 1) 0) (getD s (at + 2) 0) (number (valueAt 4 s (at + 3))) (omega arith) (omega arith)
+      (g .follow) (g .known)
   given-more ColumnCompared h g =
-      more-comparison st h 0x42 (getD s (at + 1) 0) (getD s (at + 2) 0) (column (getD s (at + 3) 0)) (omega arith) (omega arith) (g .follow) (g .known)
+      more-comparison st h 0x42 (getD s (at + 1) 0) (getD s (at + 2) 0) (column (getD s (at + 3) 0)) (omega arith) (omega arith)
+      (g .follow) (g .known)
   given-more End h g = more-last (st .last) (st .inQuery) (st .job) (g .follow)
 
   pub step-more : (c : Command) → Sound st → Given s at st at' st' c → soFar st' ≡ soFar st ++ entryAt c s at ∷ []

@@ -27,7 +27,8 @@ byteOf ColumnCompared = 0x42
 byteOf End = 0xFF
 
 -- one row of the list of commands, and the rows below it
-row : (b : ℕ) (c d : Command) (rest : Option Command) → (rest ≡ some c → b ≡ byteOf c) → cond (eqb b (byteOf d)) (some d) rest ≡ some c → b ≡ byteOf c
+row : (b : ℕ) (c d : Command) (rest : Option Command) → (rest ≡ some c → b ≡ byteOf c) → cond (eqb b (byteOf d)) (some d) rest ≡ some c
+    → b ≡ byteOf c
 row b c d rest below e = go (eqb b (byteOf d)) refl e
   where
     go : (t : Bool) → eqb b (byteOf d) ≡ t → cond t (some d) rest ≡ some c → b ≡ byteOf c
@@ -38,7 +39,8 @@ pub byte-is : (b : ℕ) (c : Command) → commandOf b ≡ some c → b ≡ byteO
 unfolding commandOf
 byte-is b c =
     row b c NextTable _ (row b c NextColumn _ (row b c ExtractBegins _ (row b c QueryBegins _ (row b c TableUsed _ (row b c OutputColumn _
-    (row b c NextClause _ (row b c NumberCompared _ (row b c ColumnCompared _ (row b c End _ (λ e. absurd (Option·none-ne-some c e)))))))))))
+    (row b c NextClause _ (row b c NumberCompared _ (row b c ColumnCompared _
+    (row b c End _ (λ e. absurd (Option·none-ne-some c e)))))))))))
 
 -- ---- what the checks leave
 pub record Given (s : List ℕ) (at : ℕ) (st : State) (at' : ℕ) (st' : State) (c : Command) : Type 0 where

@@ -11,6 +11,7 @@ use lib.Dec.{T, T-not, not-T, eqb, ltb, leb, eqb→eq, eqb-refl, leb→le}
 use Rattle.base.proofs.Lists.{has-any, none-snoc}
 use Rattle.base.specs.Lists.{anyOf, allOf, isEmpty}
 use Rattle.model.specs.WellFormed.{ascending, noRepeats}
+use Rattle.layout.specs.Commands.{inCondition, ending}
 use Rattle.layout.specs.Reading.{aboveLast}
 
 -- ---- one more element
@@ -43,7 +44,8 @@ new-at (u ∷ us) x ys t =
   where
     split : T (not (anyOf (eqb u) (us ++ x ∷ ys))) → T (not (anyOf (eqb x) us)) → T (eqb x u) ⊎ T (anyOf (eqb x) us) → ⊥
     split h k (inl e) =
-        T-not (anyOf (eqb u) (us ++ x ∷ ys)) h (has-any (eqb u) {x = x} (Memᴰ·append-right us (List·Memᴰ·head refl)) (rw (eqb→eq x u e) (eqb-refl u)))
+        T-not (anyOf (eqb u) (us ++ x ∷ ys)) h (has-any (eqb u) {x = x} (Memᴰ·append-right us (List·Memᴰ·head refl))
+        (rw (eqb→eq x u e) (eqb-refl u)))
     split h k (inr m) = T-not (anyOf (eqb x) us) k m
 
 -- ---- one of some numbers
@@ -65,9 +67,17 @@ among l lo hi (x ∷ xs) t a =
     let (k, m) = and-yes (leb lo x && leb x hi) (allOf (λ y. leb lo y && leb y hi) xs) a in
     go (and-yes (leb lo x) (leb x hi) k) (λ u. among l lo hi xs u m) (or-yes (eqb l x) (anyOf (eqb l) xs) t)
   where
-    go : T (leb lo x) × T (leb x hi) → (T (anyOf (eqb l) xs) → (lo ≤ l) × (l ≤ hi)) → T (eqb l x) ⊎ T (anyOf (eqb l) xs) → (lo ≤ l) × (l ≤ hi)
+    go : T (leb lo x) × T (leb x hi) → (T (anyOf (eqb l) xs) → (lo ≤ l) × (l ≤ hi)) → T (eqb l x) ⊎ T (anyOf (eqb l) xs)
+        → (lo ≤ l) × (l ≤ hi)
     go (u, v) below (inl h) = let e : l ≡ x = eqb→eq l x h in (rw e (leb→le lo x u), rw e (leb→le x hi v))
     go (u, v) below (inr h) = below h
+
+-- the last command stands in a condition, or where an expression may end
+pub in-condition : (l : ℕ) → T (anyOf (eqb l) inCondition) → (0x40 ≤ l) × (l ≤ 0x42)
+in-condition l t = among l 0x40 0x42 inCondition t tt
+
+pub at-ending : (l : ℕ) → T (anyOf (eqb l) ending) → (0x31 ≤ l) × (l ≤ 0x42)
+at-ending l t = among l 0x31 0x42 ending t tt
 
 -- some list with an element
 pub not-empty : {A : Type 0} (xs : List A) → 1 ≤ length xs → T (not (isEmpty xs))

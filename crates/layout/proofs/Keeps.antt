@@ -16,13 +16,13 @@ use Rattle.base.specs.Lists.{anyOf, allOf, isEmpty, lastOf, inLast}
 use Rattle.base.proofs.Lists.{all-snoc, some-snoc, all-weaker, all-both, all-last, length-last, some-last, last-filled, concat-more, concat-last}
 use Rattle.words.specs.Word.{valueAt}
 use Rattle.model.specs.Tables.{Bounds, Table, Against, column, number, Comparison, Condition, Expression, Job, columnsOf, uses}
-use Rattle.model.specs.Coded.{opAt}
+use Rattle.words.specs.Compare.{opAt}
 use Rattle.model.specs.WellFormed.{inScope, againstInScope, comparisonFormed, inRange, againstLimited, expressionFormed, conditionLimited}
 use Rattle.layout.specs.declared.Command.{Command}
 use Rattle.layout.specs.declared.Command.the-variants.{NextTable, NextColumn, ExtractBegins, QueryBegins, TableUsed, OutputColumn, NextClause, NumberCompared, ColumnCompared, End}
-use Rattle.layout.specs.Commands.{inClause, ending, addTable, addColumn, mark, useTable, addOutput, addClause, addComparison, entryAt}
+use Rattle.layout.specs.Commands.{inCondition, addTable, addColumn, mark, useTable, addOutput, addClause, addComparison, entryAt}
 use Rattle.layout.specs.Reading.{State, noExpression, atStart, current, follows, hasRoom, aboveLast, withUsed, withOutput, withCondition, withCurrent, after, next, stepOf}
-use Rattle.layout.proofs.Growing.{ascending-more, differ-more, either, among}
+use Rattle.layout.proofs.Growing.{ascending-more, differ-more, either, among, in-condition, at-ending}
 use Rattle.layout.proofs.Given.{byteOf, Given, step-given}
 
 -- ---- an expression with one thing more
@@ -42,7 +42,7 @@ begun-none ts l h = record {
   no-outputs = λ _. refl;
   some-outputs = λ k. absurd (omega arith);
   no-clauses = λ _. refl;
-  some-clauses = λ k m. absurd (omega arith);
+  some-clauses = λ t. let (lo, hi) = in-condition l t in absurd (omega arith);
 }
 
 -- what is in scope doesn't depend on the condition
@@ -58,7 +58,8 @@ module _ (ts : List Table) (e : Expression) (x : Condition) where
       let (m, n) = and-yes (inScope ts e (k .left)) (againstInScope ts e (k .right)) t in
       yes-and (inScope ts e (k .left)) (againstInScope ts (withCondition e x) (k .right)) m (side-with (k .right) n)
 
-  clauses-with : (y : Condition) → T (allOf (allOf (comparisonFormed ts e)) y) → T (allOf (allOf (comparisonFormed ts (withCondition e x))) y)
+  clauses-with : (y : Condition) → T (allOf (allOf (comparisonFormed ts e)) y)
+      → T (allOf (allOf (comparisonFormed ts (withCondition e x))) y)
   clauses-with = all-weaker _ _ (all-weaker (comparisonFormed ts e) (comparisonFormed ts (withCondition e x)) comparison-with)
 
 module _ (ts : List Table) (l : ℕ) (e : Expression) (b : Begun ts l e) where
@@ -80,7 +81,7 @@ module _ (ts : List Table) (l : ℕ) (e : Expression) (b : Begun ts l e) where
         no-outputs = λ k. no-outputs;
         some-outputs = λ k. absurd (omega arith);
         no-clauses = λ k. no-clauses;
-        some-clauses = λ k m. absurd (omega arith);
+        some-clauses = λ t. absurd t;
       }
 
   begun-output : (c : ℕ) → 0x30 ≤ l → l < 0x40 → T (inScope ts e c) → T (not (anyOf (eqb c) (e .outputs))) → Begun ts 0x31 (withOutput e c)
@@ -101,13 +102,13 @@ module _ (ts : List Table) (l : ℕ) (e : Expression) (b : Begun ts l e) where
         no-outputs = λ k. absurd (omega arith);
         some-outputs = λ k. some-snoc (e .outputs) c;
         no-clauses = λ k. no-clauses;
-        some-clauses = λ k m. absurd (omega arith);
+        some-clauses = λ t. absurd t;
       }
 
   -- another condition
   begun-with : (d : ℕ) (x : Condition) → 0x31 ≤ l → 0x40 ≤ d → T (allOf (allOf (comparisonFormed ts e)) x)
       → T (allOf (allOf (λ k. againstLimited (k .right))) x) → length x ≤ 4 → T (allOf (λ c. leb (length c) 6) x)
-      → (d ≤ 0x42 → T (not (isEmpty x))) → Begun ts d (withCondition e x)
+      → (T (anyOf (eqb d) inCondition) → T (not (isEmpty x))) → Begun ts d (withCondition e x)
   unfolding uses
   begun-with d x g h f n c k i = record {
     declared = b .declared;
@@ -123,7 +124,7 @@ module _ (ts : List Table) (l : ℕ) (e : Expression) (b : Begun ts l e) where
     no-outputs = λ z. absurd (omega arith);
     some-outputs = λ z. b .some-outputs g;
     no-clauses = λ z. absurd (omega arith);
-    some-clauses = λ z. i;
+    some-clauses = i;
   }
 
   begun-clause : 0x31 ≤ l → T (ltb (length (e .condition)) 4) → Begun ts 0x40 (withCondition e (e .condition ++ [] ∷ []))
@@ -135,22 +136,26 @@ module _ (ts : List Table) (l : ℕ) (e : Expression) (b : Begun ts l e) where
       (all-snoc (λ c. leb (length c) 6) (e .condition) [] (b .few-comparisons) tt)
       (λ z. some-snoc (e .condition) [])
 
-  begun-comparison : (d : ℕ) (k : Comparison) → 0x41 ≤ d → 0x40 ≤ l → l ≤ 0x42 → T (ltb (length (lastOf (e .condition))) 6)
+  begun-comparison : (d : ℕ) (k : Comparison) → 0x41 ≤ d → T (anyOf (eqb l) inCondition) → T (ltb (length (lastOf (e .condition))) 6)
       → T (comparisonFormed ts e k) → T (againstLimited (k .right)) → Begun ts d (withCondition e (inLast (e .condition) k))
-  begun-comparison d k i g h r f a =
-      let one-more : length (lastOf (e .condition) ++ k ∷ []) ≤ 6 = simp length-append (omega (arith, ltb→lt (length (lastOf (e .condition))) 6 r)) in
+  begun-comparison d k i g r f a =
+      let (lo, hi) = in-condition l g in
+      let one-more : length (lastOf (e .condition) ++ k ∷ []) ≤ 6 =
+      simp length-append (omega (arith, ltb→lt (length (lastOf (e .condition))) 6 r)) in
       begun-with d (inLast (e .condition) k) (omega arith) (omega arith)
-      (all-last (allOf (comparisonFormed ts e)) (e .condition) k (b .formed) (λ t. all-snoc (comparisonFormed ts e) (lastOf (e .condition)) k t f))
+      (all-last (allOf (comparisonFormed ts e)) (e .condition) k (b .formed)
+      (λ t. all-snoc (comparisonFormed ts e) (lastOf (e .condition)) k t f))
       (all-last (allOf (λ x. againstLimited (x .right))) (e .condition) k (b .numbers)
       (λ t. all-snoc (λ x. againstLimited (x .right)) (lastOf (e .condition)) k t a))
       (rw (length-last (e .condition) k) (b .few-clauses))
-      (all-last (λ c. leb (length c) 6) (e .condition) k (b .few-comparisons) (λ t. le→leb (length (lastOf (e .condition) ++ k ∷ [])) 6 one-more))
-      (λ z. some-last (e .condition) k (b .some-clauses g h))
+      (all-last (λ c. leb (length c) 6) (e .condition) k (b .few-comparisons)
+      (λ t. le→leb (length (lastOf (e .condition) ++ k ∷ [])) 6 one-more))
+      (λ z. some-last (e .condition) k (b .some-clauses g))
 
   -- the job's end adds nothing
   begun-end : 0x31 ≤ l → Begun ts 0xFF e
   begun-end g =
-      begun-with 0xFF (e .condition) g (omega arith) (b .formed) (b .numbers) (b .few-clauses) (b .few-comparisons) (λ z. absurd (omega arith))
+      begun-with 0xFF (e .condition) g (omega arith) (b .formed) (b .numbers) (b .few-clauses) (b .few-comparisons) (λ z. absurd z)
 
   -- where an expression may end, it is well formed
   pub begun-formed : 0x31 ≤ l → T (expressionFormed ts e) × T (conditionLimited (e .condition))
@@ -159,7 +164,8 @@ module _ (ts : List Table) (l : ℕ) (e : Expression) (b : Begun ts l e) where
       let used = b .some-used (omega arith) in
       let outputs = b .some-outputs g in
       let clauses = le→leb (length (e .condition)) 4 (b .few-clauses) in
-      let each = all-both (λ c. leb (length c) 6) (allOf (λ a. againstLimited (a .right))) (e .condition) (b .few-comparisons) (b .numbers) in
+      let each =
+      all-both (λ c. leb (length c) 6) (allOf (λ a. againstLimited (a .right))) (e .condition) (b .few-comparisons) (b .numbers) in
       let declared = b .declared in
       let ascends = b .ascends in
       let in-scope = b .in-scope in
@@ -189,13 +195,15 @@ with-tables l d q r j x y s g h w f c b = record {
 }
 
 -- a command in an expression
-in-expression : (l d : ℕ) (q : Bool) (j : Job) (e : Expression) → Sound (record { last = l; inQuery = q; job = j }) → 0x20 ≤ l → 0x30 ≤ d → d ≤ 0x42
+in-expression : (l d : ℕ) (q : Bool) (j : Job) (e : Expression) → Sound (record { last = l; inQuery = q; job = j }) → 0x20 ≤ l → 0x30 ≤ d
+    → d ≤ 0x42
     → Begun (j .tables) d e → Sound (record { last = d; inQuery = q || eqb d 0x21; job = withCurrent q j e })
 in-expression l d true j e s h f g b =
     with-tables l d true true j (j .extract) e s (omega arith) (omega arith) (λ z. absurd (true≢false z)) (s .finished) (λ z. refl) b
 in-expression l d false j e s h f g b =
     rw (ne-eqb d 0x21 (λ z. omega arith))
-    (with-tables l d false false j e (j .query) s (omega arith) (omega arith) (s .waiting) (λ z. absurd (false≢true z)) (λ z. absurd (omega arith)) b)
+    (with-tables l d false false j e (j .query) s (omega arith) (omega arith) (s .waiting) (λ z. absurd (false≢true z))
+    (λ z. absurd (omega arith)) b)
 
 module _ (st : State) (s : Sound st) where
   sound-table : T (follows st NextTable) → T (hasRoom st NextTable) → Sound (after 0x10 addTable st)
@@ -230,7 +238,9 @@ module _ (st : State) (s : Sound st) where
       rw q (record {
         few-tables = rw (length-last (st .job .tables) b) (s .few-tables);
         few-columns = rw columns (simp length-append (omega (arith, ltb→lt (length (columnsOf (st .job .tables))) 16 r)));
-        bounds = rw columns (all-snoc (λ b. inRange (b .lo) && inRange (b .hi) && leZ (b .lo) (b .hi)) (columnsOf (st .job .tables)) b (s .bounds) i);
+        bounds =
+            rw columns
+            (all-snoc (λ b. inRange (b .lo) && inRange (b .hi) && leZ (b .lo) (b .hi)) (columnsOf (st .job .tables)) b (s .bounds) i);
         no-table = λ z. absurd (omega arith);
         opened = λ z. absurd (omega arith);
         filled = λ z. (some-last (st .job .tables) b some, each);
@@ -255,7 +265,8 @@ module _ (st : State) (s : Sound st) where
   sound-extract f =
       let (lo, hi) = among (st .last) 0x11 0x11 (0x11 ∷ []) f tt in
       let (q, x) = s .declaring (omega arith) in
-      rw q (with-tables (st .last) 0x20 (st .inQuery) false (st .job) (st .job .extract) (st .job .query) s lo (omega arith) (λ z. s .waiting q)
+      rw q (with-tables (st .last) 0x20 (st .inQuery) false (st .job) (st .job .extract) (st .job .query) s lo (omega arith)
+      (λ z. s .waiting q)
       (λ z. absurd (false≢true z)) (λ z. absurd (omega arith)) (rw x (begun-none _ 0x20 (omega arith))))
 
   sound-used : (t : ℕ) → T (follows st TableUsed) → T (ltb t (length (st .job .tables))) → T (aboveLast (current st .used) t)
@@ -265,7 +276,8 @@ module _ (st : State) (s : Sound st) where
       in-expression (st .last) 0x30 (st .inQuery) (st .job) _ s lo (omega arith) (omega arith)
       (begun-used (st .job .tables) (st .last) (current st) (s .begun) t (omega arith) d n)
 
-  sound-output : (c : ℕ) → T (follows st OutputColumn) → T (inScope (st .job .tables) (current st) c) → T (not (anyOf (eqb c) (current st .outputs)))
+  sound-output : (c : ℕ) → T (follows st OutputColumn) → T (inScope (st .job .tables) (current st) c)
+      → T (not (anyOf (eqb c) (current st .outputs)))
       → Sound (after 0x31 (addOutput c) st)
   sound-output c f d n =
       let (lo, hi) = among (st .last) 0x30 0x31 (0x30 ∷ 0x31 ∷ []) f tt in
@@ -274,7 +286,7 @@ module _ (st : State) (s : Sound st) where
 
   sound-clause : T (follows st NextClause) → T (hasRoom st NextClause) → Sound (after 0x40 addClause st)
   sound-clause f r =
-      let (lo, hi) = among (st .last) 0x31 0x42 ending f tt in
+      let (lo, hi) = at-ending (st .last) f in
       in-expression (st .last) 0x40 (st .inQuery) (st .job) _ s (omega arith) (omega arith) (omega arith)
       (begun-clause (st .job .tables) (st .last) (current st) (s .begun) lo r)
 
@@ -282,26 +294,29 @@ module _ (st : State) (s : Sound st) where
       → T (againstLimited r) → T (inScope (st .job .tables) (current st) l && againstInScope (st .job .tables) (current st) r)
       → Sound (after d (addComparison o l r) st)
   sound-comparison d o l r g h f m a n =
-      let (lo, hi) = among (st .last) 0x40 0x42 inClause f tt in
+      let (lo, hi) = in-condition (st .last) f in
       in-expression (st .last) d (st .inQuery) (st .job) _ s (omega arith) (omega arith) h
-      (begun-comparison (st .job .tables) (st .last) (current st) (s .begun) d (record { op = opAt o; left = l; right = r }) g lo hi m n a)
+      (begun-comparison (st .job .tables) (st .last) (current st) (s .begun) d (record { op = opAt o; left = l; right = r }) g f m n a)
 
 -- the query begins where the extract may end
 sound-query : (l : ℕ) (q : Bool) (j : Job) → Sound (record { last = l; inQuery = q; job = j })
-    → T (follows (record { last = l; inQuery = q; job = j }) QueryBegins) → Sound (after 0x21 (mark 0x21) (record { last = l; inQuery = q; job = j }))
+    → T (follows (record { last = l; inQuery = q; job = j }) QueryBegins)
+    → Sound (after 0x21 (mark 0x21) (record { last = l; inQuery = q; job = j }))
 sound-query l true j s f = absurd f
 sound-query l false j s f =
-    let (lo, hi) = among l 0x31 0x42 ending f tt in
+    let (lo, hi) = at-ending l f in
     with-tables l 0x21 false true j (j .extract) (j .query) s (omega arith) (omega arith) (λ z. absurd (true≢false z))
     (λ z. begun-formed (j .tables) l (j .extract) (s .begun) lo) (λ z. refl) (rw (s .waiting refl) (begun-none _ 0x21 (omega arith)))
 
 -- the job ends where the query may end
 sound-last : (l : ℕ) (q : Bool) (j : Job) → Sound (record { last = l; inQuery = q; job = j })
-    → T (follows (record { last = l; inQuery = q; job = j }) End) → Sound (after 0xFF (mark 0xFF) (record { last = l; inQuery = q; job = j }))
+    → T (follows (record { last = l; inQuery = q; job = j }) End)
+    → Sound (after 0xFF (mark 0xFF) (record { last = l; inQuery = q; job = j }))
 sound-last l false j s f = absurd f
 sound-last l true j s f =
-    let (lo, hi) = among l 0x31 0x42 ending f tt in
-    with-tables l 0xFF true true j (j .extract) (j .query) s (omega arith) (omega arith) (λ z. absurd (true≢false z)) (s .finished) (λ z. refl)
+    let (lo, hi) = at-ending l f in
+    with-tables l 0xFF true true j (j .extract) (j .query) s (omega arith) (omega arith) (λ z. absurd (true≢false z)) (s .finished)
+    (λ z. refl)
     (begun-end (j .tables) l (j .query) (s .begun) lo)
 
 -- ---- the start, and one step

@@ -12,14 +12,13 @@ use Rattle.model.proofs.Formed.{Formed, Limited, WellFormed, near, range-word}
 use Rattle.base.specs.Lists.{anyOf, allOf, concat, isEmpty, flatMap, lastOf}
 use Rattle.base.proofs.Lists.{all-among, last-append, in-last, length-concat, all-concat}
 use Rattle.base.proofs.Tests.{or-right}
-use Rattle.words.specs.Compare.{Op, less, atMost, equal, atLeast, more}
+use Rattle.words.specs.Compare.{Op, less, atMost, equal, atLeast, more, numberOfOp}
 use Rattle.model.specs.Tables.{Bounds, Table, Against, column, number, Comparison, Clause, Expression, Job, columnsOf, tableOf, uses}
-use Rattle.model.specs.Coded.{numberOfOp}
 use Rattle.model.specs.WellFormed.{tableFormed, inScope, againstInScope, comparisonFormed, inRange, againstLimited}
-use Rattle.model.proofs.Theorems.{op-number}
+use Rattle.words.proofs.Ops.{op-number}
 use Rattle.layout.specs.declared.Command.{Command}
 use Rattle.layout.specs.declared.Command.the-variants.{NextColumn, TableUsed, OutputColumn, NextClause, NumberCompared, ColumnCompared}
-use Rattle.layout.specs.Commands.{inClause, ending, before, Entry, addTable, addColumn, useTable, addOutput, addClause, addComparison}
+use Rattle.layout.specs.Commands.{inCondition, ending, before, Entry, addTable, addColumn, useTable, addOutput, addClause, addComparison}
 use Rattle.layout.specs.Reading.{State, noExpression, atStart, current, hasRoom, inRanges, opKnown, declared, isNew, withCurrent, added}
 use Rattle.layout.specs.Writing.{tableEntries, clauseEntries, expressionEntries}
 use Rattle.layout.proofs.Taken.{Spelled, spelled-table, spelled-column, spelled-used, spelled-output, spelled-clause, spelled-against, spelled-columns, Legal, Run, done, run-one, run-append}
@@ -80,7 +79,8 @@ take-table : (ts : List Table) (l : ℕ) → T (anyOf (eqb l) (0 ∷ 0x11 ∷ []
 take-table ts l o h =
     run-one spelled-table refl (record { order = o; room = lt→ltb (length ts) 4 h; range = tt; op = tt; named = tt; fresh = tt }) refl
 
-take-column : (ts : List Table) (bs : Table) (b : Bounds) (l : ℕ) → T (anyOf (eqb l) (0x10 ∷ 0x11 ∷ [])) → length (columnsOf (ts ++ bs ∷ [])) < 16
+take-column : (ts : List Table) (bs : Table) (b : Bounds) (l : ℕ) → T (anyOf (eqb l) (0x10 ∷ 0x11 ∷ []))
+    → length (columnsOf (ts ++ bs ∷ [])) < 16
     → T (inRange (b .lo) && inRange (b .hi)) → T (leZ (b .lo) (b .hi))
     → Run (withOnly (ts ++ bs ∷ []) l) (columnEntry b ∷ []) (withOnly (ts ++ (bs ++ b ∷ []) ∷ []) 0x11)
 take-column ts bs b l o h r i =
@@ -116,16 +116,20 @@ module _ (j : Job) (w : WellFormed j) where
   reach-table : (ts : List Table) (t : Table) (us : List Table) → j .tables ≡ ts ++ t ∷ us → (l : ℕ) → T (anyOf (eqb l) (0 ∷ 0x11 ∷ []))
       → Reaches (withOnly ts l) (tableEntries t) (0x11 ∷ []) (withOnly (ts ++ t ∷ []))
   reach-table ts t us q l o =
-      let (some, ordered) = and-yes (not (isEmpty t)) (allOf (λ b. leZ (b .lo) (b .hi)) t) (all-among tableFormed ts t us q (w .formed .tables)) in
+      let (some, ordered) = and-yes (not (isEmpty t)) (allOf (λ b. leZ (b .lo) (b .hi)) t)
+      (all-among tableFormed ts t us q (w .formed .tables)) in
       let tables = w .limits .few-tables in
       let columns = w .limits .few-columns in
       let few : length (concat ts) + length t ≤ 16 =
       omega (arith, ap (λ us. length (concat us)) q, length-concat ts (t ∷ us), length-append t (concat us)) in
-      let (m, k, r) = reach-columns ts t few (all-among (allOf near) ts t us q (all-concat near (j .tables) (w .limits .ranges))) ordered some in
+      let near-all = all-among (allOf near) ts t us q (all-concat near (j .tables) (w .limits .ranges)) in
+      let (m, k, r) = reach-columns ts t few near-all ordered some in
       (m, k, run-append (take-table ts l o (omega (arith, ap length q, length-append ts (t ∷ us)))) r)
 
   pub reach-tables : Reaches atStart (flatMap (j .tables) tableEntries) (0x11 ∷ []) (withOnly (j .tables))
-  reach-tables = reach-some tableEntries withOnly (0 ∷ 0x11 ∷ []) (0x11 ∷ []) (any-more 0 (0x11 ∷ [])) (j .tables) reach-table (not-empty (j .tables) (w .limits .some-tables)) 0 tt
+  reach-tables =
+      reach-some tableEntries withOnly (0 ∷ 0x11 ∷ []) (0x11 ∷ []) (any-more 0 (0x11 ∷ [])) (j .tables) reach-table
+      (not-empty (j .tables) (w .limits .some-tables)) 0 tt
 
 -- ---- expressions
 abbrev comparisonEntry : Comparison → Entry
@@ -235,9 +239,9 @@ module _ (q : Bool) (j : Job) (few : length (j .tables) ≤ 4) (columns : length
       let legal = legal-in q l j e _ (comparisonEntry k) o r i (le→leb op 4 (op-below (k .op))) named tt in
       take-in q l j e (upTo (x .used) (x .outputs) (ks ++ (c ++ k ∷ []) ∷ [])) s n m (λ z. rw (op-number (k .op), in-last ks c k)) legal
 
-  reach-comparison : (ks : List Clause) (c : Clause) (k : Comparison) (l : ℕ) → T (anyOf (eqb l) inClause) → length c < 6
+  reach-comparison : (ks : List Clause) (c : Clause) (k : Comparison) (l : ℕ) → T (anyOf (eqb l) inCondition) → length c < 6
       → T (againstLimited (k .right)) → T (comparisonFormed (j .tables) x k)
-      → Reaches (clausesUpTo (ks ++ c ∷ []) l) (comparisonEntry k ∷ []) inClause (clausesUpTo (ks ++ (c ++ k ∷ []) ∷ []))
+      → Reaches (clausesUpTo (ks ++ c ∷ []) l) (comparisonEntry k ∷ []) inCondition (clausesUpTo (ks ++ (c ++ k ∷ []) ∷ []))
   reach-comparison ks c k l o f i h = go (k .right) refl
     where
       room : (st : State) → current st ≡ upTo (x .used) (x .outputs) (ks ++ c ∷ []) → T (ltb (length (lastOf (current st .condition))) 6)
@@ -250,7 +254,7 @@ module _ (q : Bool) (j : Job) (few : length (j .tables) ≤ 4) (columns : length
       scopes = and-yes (inScope (j .tables) x (k .left)) (againstInScope (j .tables) x (k .right)) h
 
       go : (r : Against) → k .right ≡ r
-          → Reaches (clausesUpTo (ks ++ c ∷ []) l) (comparisonEntry k ∷ []) inClause (clausesUpTo (ks ++ (c ++ k ∷ []) ∷ []))
+          → Reaches (clausesUpTo (ks ++ c ∷ []) l) (comparisonEntry k ∷ []) inCondition (clausesUpTo (ks ++ (c ++ k ∷ []) ∷ []))
       go (number v) p =
           let spelled : Spelled NumberCompared 0x41 (comparisonEntry k) =
           rw p (spelled-against (numberOfOp (k .op)) (k .left) v below (scope-below (k .left) (scopes .0)) (range-word v (rw p at i))) in
@@ -264,13 +268,13 @@ module _ (q : Bool) (j : Job) (few : length (j .tables) ≤ 4) (columns : length
   -- the comparisons of a clause c, behind other clauses
   reach-comparisons : (ks : List Clause) (c : Clause) → length c ≤ 6 → T (allOf (λ k. againstLimited (k .right)) c)
       → T (allOf (comparisonFormed (j .tables) x) c)
-      → Reaches (clausesUpTo (ks ++ [] ∷ []) 0x40) (map comparisonEntry c) inClause (clausesUpTo (ks ++ c ∷ []))
+      → Reaches (clausesUpTo (ks ++ [] ∷ []) 0x40) (map comparisonEntry c) inCondition (clausesUpTo (ks ++ c ∷ []))
   reach-comparisons ks c few near-by h =
       rw (flat-map comparisonEntry c)
-      (reach-rest _ (λ b. clausesUpTo (ks ++ b ∷ [])) inClause inClause (λ l o. o) c one [] c refl 0x40 tt)
+      (reach-rest _ (λ b. clausesUpTo (ks ++ b ∷ [])) inCondition inCondition (λ l o. o) c one [] c refl 0x40 tt)
     where
-      one : (b : Clause) (k : Comparison) (a : Clause) → c ≡ b ++ k ∷ a → (l : ℕ) → T (anyOf (eqb l) inClause)
-          → Reaches (clausesUpTo (ks ++ b ∷ []) l) (comparisonEntry k ∷ []) inClause (clausesUpTo (ks ++ (b ++ k ∷ []) ∷ []))
+      one : (b : Clause) (k : Comparison) (a : Clause) → c ≡ b ++ k ∷ a → (l : ℕ) → T (anyOf (eqb l) inCondition)
+          → Reaches (clausesUpTo (ks ++ b ∷ []) l) (comparisonEntry k ∷ []) inCondition (clausesUpTo (ks ++ (b ++ k ∷ []) ∷ []))
       one b k a p l o =
           let shorter : length b < 6 = omega (arith, ap length p, length-append b (k ∷ a)) in
           reach-comparison ks b k l o shorter (all-among _ b k a p near-by) (all-among _ b k a p h)
@@ -283,13 +287,15 @@ module _ (q : Bool) (j : Job) (few : length (j .tables) ≤ 4) (columns : length
       let legal = legal-in q l j e NextClause addClause o (λ st h. rw h (lt→ltb (length ks) 4 few)) tt tt tt tt in
       let r = take-in q l j e (upTo (x .used) (x .outputs) (ks ++ [] ∷ [])) spelled-clause refl refl (λ k. refl) legal in
       let formed = all-among (allOf (comparisonFormed (j .tables) x)) ks c ms p (w .condition) in
-      let (m, k, t) = reach-comparisons ks c (leb→le (length c) 6 (all-among _ ks c ms p (limits .few-comparisons))) (all-among _ ks c ms p (limits .numbers)) formed in
-      (m, any-more 0x31 inClause m k, run-append r t)
+      let (m, k, t) = reach-comparisons ks c (leb→le (length c) 6 (all-among _ ks c ms p (limits .few-comparisons)))
+      (all-among _ ks c ms p (limits .numbers)) formed in
+      (m, any-more 0x31 inCondition m k, run-append r t)
 
   reach-clauses : (l : ℕ) → T (anyOf (eqb l) (0x31 ∷ []))
       → Reaches (clausesUpTo [] l) (flatMap (x .condition) clauseEntries) ending (clausesUpTo (x .condition))
   reach-clauses l o =
-      reach-rest clauseEntries clausesUpTo ending ending (λ n h. h) (x .condition) reach-clause [] (x .condition) refl l (any-first 0x31 inClause l o)
+      reach-rest clauseEntries clausesUpTo ending ending (λ n h. h) (x .condition) reach-clause [] (x .condition) refl l
+      (any-first 0x31 inCondition l o)
 
   pub reach-expression : (l : ℕ) → T (anyOf (eqb l) (0x20 ∷ 0x21 ∷ 0x30 ∷ []))
       → Reaches (amid q l j noExpression) (expressionEntries x) ending (λ m. amid q m j x)

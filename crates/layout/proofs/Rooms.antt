@@ -47,7 +47,9 @@ filter-none q p (x ∷ l) e = let (f, g) = neither (q x) (anyOf q l) e in go f (
 
 filter-differ : (p : ℕ → Bool) (l : List ℕ) → T (noRepeats l) → T (noRepeats (filter p l))
 filter-differ p [] h = tt
-filter-differ p (x ∷ l) h = let (f, g) = and-yes (not (anyOf (eqb x) l)) (noRepeats l) h in go (not-is (anyOf (eqb x) l) f) (p x) (filter-differ p l g)
+filter-differ p (x ∷ l) h =
+    let (f, g) = and-yes (not (anyOf (eqb x) l)) (noRepeats l) h in
+    go (not-is (anyOf (eqb x) l) f) (p x) (filter-differ p l g)
   where
     go : anyOf (eqb x) l ≡ false → (b : Bool) → T (noRepeats (filter p l)) → T (noRepeats (cond b (x ∷ filter p l) (filter p l)))
     go f true k = rw (filter-none (eqb x) p l f) k

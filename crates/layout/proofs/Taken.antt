@@ -1,4 +1,4 @@
--- Entries at their places among bytes: each is taken as written where the checks are passed, and then so is a list of them. Assumes nothing.
+-- Entries at their places among bytes: each is taken as written where the checks are passed, and so is a list of them. Assumes nothing.
 use mathlib.Core.Path.{_≡_, refl, sym, ap, _∙_}
 use mathlib.Core.Bool.{false}
 use mathlib.Core.List.{List, [], _∷_, _++_, append-assoc}
@@ -96,7 +96,8 @@ spelled-output c = numbered addOutput c refl refl refl (omega arith) (λ s at. r
 encoded-bytes : (v : ℤ) → Bytes (encoded 4 v)
 encoded-bytes v = bytes-are 4 (unsignedOf 4 v)
 
-value-past : (pre s : List ℕ) (n : ℕ) (v : ℤ) → mag v < signBit 4 → take 4 (drop n s) ≡ encoded 4 v → valueAt 4 (pre ++ s) (length pre + n) ≡ v
+value-past : (pre s : List ℕ) (n : ℕ) (v : ℤ) → mag v < signBit 4 → take 4 (drop n s) ≡ encoded 4 v
+    → valueAt 4 (pre ++ s) (length pre + n) ≡ v
 value-past pre s n v h e = rw (drop-append-add pre s n, e) (decode-encode 4 v h)
 
 pub spelled-column : (lo hi : ℤ) → mag lo < signBit 4 → mag hi < signBit 4 → Spelled NextColumn 0x11 (addColumn lo hi)
@@ -145,7 +146,8 @@ pub record Legal (st : State) (c : Command) (e : Entry) : Type 0 where
   pub fresh : T (isNew (current st) e)
 
 step-taken : (s : List ℕ) (at : ℕ) (st : State) (b : ℕ) (c : Command) (e : Entry) → at + 1 + operands c ≤ length s
-    → getD s at 0 ≡ b → commandOf b ≡ some c → entryAt c s at ≡ e → Legal st c e → stepOf s at st ≡ next (at + 1 + operands c) (after b e st)
+    → getD s at 0 ≡ b → commandOf b ≡ some c → entryAt c s at ≡ e → Legal st c e
+    → stepOf s at st ≡ next (at + 1 + operands c) (after b e st)
 unfolding stepOf taken
 step-taken s at st b c e fits g l r h =
     rw (
@@ -209,4 +211,5 @@ run-accepted (then {b = b} {e = e} {es = es} w o k r) l s pre at (suc n) q h f =
     let split : pre ++ (entryBytes e ++ F ++ 0xFF ∷ []) ≡ pre ++ entryBytes e ++ (F ++ 0xFF ∷ []) = simp append-assoc in
     let here : s ≡ pre ++ (entryBytes e ++ (F ++ 0xFF ∷ [])) = q ∙ simp append-assoc in
     rw (step-spelled w k s pre (F ++ 0xFF ∷ []) at here h, o)
-    (run-accepted r l s (pre ++ entryBytes e) (at + length (entryBytes e)) n (q ∙ split) (rw (length-append pre (entryBytes e), h)) (omega arith))
+    (run-accepted r l s (pre ++ entryBytes e) (at + length (entryBytes e)) n (q ∙ split) (rw (length-append pre (entryBytes e), h))
+    (omega arith))

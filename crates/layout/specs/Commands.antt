@@ -46,13 +46,13 @@ operands End = 0
 
 -- ---- Order
 
--- within a clause: a comparison may follow
-abbrev pub inClause : List ℕ
-inClause = 0x40 ∷ 0x41 ∷ 0x42 ∷ []
+-- the commands that stand in a condition; a comparison may follow each
+abbrev pub inCondition : List ℕ
+inCondition = 0x40 ∷ 0x41 ∷ 0x42 ∷ []
 
 -- where an expression may end
 abbrev pub ending : List ℕ
-ending = 0x31 ∷ inClause
+ending = 0x31 ∷ inCondition
 
 -- the commands that a command may follow, in the query or before it; 0 is the start
 abbrev pub before : Bool → Command → List ℕ
@@ -63,8 +63,8 @@ before inQuery QueryBegins = cond inQuery [] ending
 before inQuery TableUsed = 0x20 ∷ 0x21 ∷ 0x30 ∷ []
 before inQuery OutputColumn = 0x30 ∷ 0x31 ∷ []
 before inQuery NextClause = ending
-before inQuery NumberCompared = inClause
-before inQuery ColumnCompared = inClause
+before inQuery NumberCompared = inCondition
+before inQuery ColumnCompared = inCondition
 before inQuery End = cond inQuery ending []
 
 -- ---- Entries

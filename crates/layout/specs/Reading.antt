@@ -8,7 +8,7 @@ use lib.Signed.{leZ}
 use lib.Dec.{eqb, ltb, leb}
 use Rattle.base.specs.Lists.{anyOf, pairwise, inLast, lastOf}
 use Rattle.model.specs.Tables.{Table, Condition, Expression, Job, columnsOf}
-use Rattle.model.specs.Coded.{opAt}
+use Rattle.words.specs.Compare.{opAt}
 use Rattle.model.specs.WellFormed.{inScope, againstInScope, inRange, againstLimited}
 use Rattle.layout.specs.declared.Command.{Command}
 use Rattle.layout.specs.declared.Command.the-variants.{NextTable, NextColumn, ExtractBegins, QueryBegins, TableUsed, OutputColumn, NextClause, NumberCompared, ColumnCompared, End}

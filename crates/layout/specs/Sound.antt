@@ -5,10 +5,11 @@ use mathlib.Core.List.{List, [], _∷_, _++_}
 use Prim.Native.Nat.{ℕ, _<_, _≤_}
 use lib.ListN.{length}
 use lib.Signed.{leZ}
-use lib.Dec.{T, ltb, leb}
-use Rattle.base.specs.Lists.{allOf, isEmpty}
+use lib.Dec.{T, eqb, ltb, leb}
+use Rattle.base.specs.Lists.{anyOf, allOf, isEmpty}
 use Rattle.model.specs.Tables.{Table, Expression, columnsOf}
 use Rattle.model.specs.WellFormed.{ascending, noRepeats, inScope, comparisonFormed, inRange, againstLimited, expressionFormed, conditionLimited}
+use Rattle.layout.specs.Commands.{inCondition}
 use Rattle.layout.specs.Reading.{State, noExpression, current}
 
 -- an expression of which commands have been read up to `last`
@@ -26,7 +27,7 @@ pub record Begun (ts : List Table) (last : ℕ) (e : Expression) : Type 0 where
   pub no-outputs : last < 0x31 → e .outputs ≡ []
   pub some-outputs : 0x31 ≤ last → T (not (isEmpty (e .outputs)))
   pub no-clauses : last < 0x40 → e .condition ≡ []
-  pub some-clauses : 0x40 ≤ last → last ≤ 0x42 → T (not (isEmpty (e .condition)))
+  pub some-clauses : T (anyOf (eqb last) inCondition) → T (not (isEmpty (e .condition)))
 
 pub record Sound (st : State) : Type 0 where
   pub few-tables : length (st .job .tables) ≤ 4
@@ -37,6 +38,7 @@ pub record Sound (st : State) : Type 0 where
   pub filled : 0x11 ≤ st .last → T (not (isEmpty (st .job .tables))) × T (allOf (λ t. not (isEmpty t)) (st .job .tables))
   pub declaring : st .last < 0x20 → (st .inQuery ≡ false) × (st .job .extract ≡ noExpression)
   pub waiting : st .inQuery ≡ false → st .job .query ≡ noExpression
-  pub finished : st .inQuery ≡ true → T (expressionFormed (st .job .tables) (st .job .extract)) × T (conditionLimited (st .job .extract .condition))
+  pub finished : st .inQuery ≡ true
+      → T (expressionFormed (st .job .tables) (st .job .extract)) × T (conditionLimited (st .job .extract .condition))
   pub closed : st .last ≡ 0xFF → st .inQuery ≡ true
   pub begun : Begun (st .job .tables) (st .last) (current st)

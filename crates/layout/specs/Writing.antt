@@ -4,7 +4,7 @@ use Prim.Native.Nat.{ℕ}
 use Rattle.base.specs.Lists.{flatMap}
 use Rattle.words.specs.Word.{encoded}
 use Rattle.model.specs.Tables.{Table, Against, column, number, Clause, Expression, Job}
-use Rattle.model.specs.Coded.{numberOfOp}
+use Rattle.words.specs.Compare.{numberOfOp}
 use Rattle.layout.specs.Commands.{startBytes, Entry, addTable, addColumn, mark, useTable, addOutput, addClause, addComparison}
 
 abbrev pub comparisonBytes : ℕ → ℕ → Against → List ℕ

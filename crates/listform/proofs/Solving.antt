@@ -18,7 +18,8 @@ use Rattle.words.specs.Word.{numberOf, signBit, valueAt}
 use Rattle.model.specs.Least.{leastRow}
 use Rattle.solver.specs.Solver.{fits, boundsFit, againstFits, comparisonFits}
 use Rattle.solver.specs.Lists.{boundsOf, comparisonsOf, rowOrZeros}
-use Rattle.model.specs.Coded.{opAt, sideOf}
+use Rattle.words.specs.Compare.{opAt}
+use Rattle.job.specs.Meaning.{sideOf}
 use Rattle.solver.specs.Uses.{Solves}
 use Rattle.listform.specs.Form.{valuesAt, allBelow, lows, highs, ops, lefts, rights, numbers, Parts, fitting, isList, least, codeOf, Solved}
 use Rattle.listform.proofs.Places.{bytes-length, values-length, values-at}

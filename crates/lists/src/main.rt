@@ -1,11 +1,12 @@
 // Solves lists of comparisons: reads them from standard input, and writes an answer to each to standard output.
 //
-// A list is a byte n, the columns, from 1 to 32; a byte m, the comparisons; for each column lo and hi; and for each comparison a byte op, from
-// 0 to 4, a byte left, a column, a byte right, and a number. Right is 0 where the column is compared with the number, else one more than the
-// column that it is compared with. Lo, hi and number have four bytes, two's complement, low byte first, and no lo is above its hi.
+// A list is a byte n, the columns, from 1 to 32; a byte m, the comparisons; for each column lo and hi; and for each comparison a byte op,
+// from 0 to 4, a byte left, a column, a byte right, and a number. Right is 0 where the column is compared with the number, else one more
+// than the column that it is compared with. Lo, hi and number have four bytes, two's complement, low byte first, and no lo is above its
+// hi.
 //
-// An answer is a byte 1 and the n values of the least row; or a byte 0 and n zeros, where no row meets the list. A byte 2 answers bytes that
-// are no list, also where the input ends within one, and then nothing more is read.
+// An answer is a byte 1 and the n values of the least row; or a byte 0 and n zeros, where no row meets the list. A byte 2 answers bytes
+// that are no list, also where the input ends within one, and then nothing more is read.
 ghost use Prim.Native.Nat.{_<_};
 ghost use Rattle.listform.specs.Uses.{Room};
 use libc::STDIN_FILENO;

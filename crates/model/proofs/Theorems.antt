@@ -5,10 +5,7 @@ use mathlib.Core.Logic.{_↔_}
 use mathlib.Core.Bool.{Bool, true, false, not, cond}
 use mathlib.Core.List.{List, [], _∷_}
 use mathlib.Core.Option.{Option, none, some}
-use Prim.Native.Nat.{ℕ, zero, suc, _<_, _≤_}
-use native.Mathlib.Omega.{arith}
-use native.Mathlib.Numerals.{sub-one}
-use borrow.Author.Tests.{ne-eqb}
+use Prim.Native.Nat.{ℕ, _<_, _≤_}
 use lib.ListN.{length, getD}
 use native.Mathlib.Decide.{ℕ-discrete}
 use lib.Dec.{T, eqb}
@@ -16,9 +13,7 @@ use Rattle.model.specs.Unused.{SameTables, jobOf, usedByEither}
 use Rattle.model.proofs.Formed.{JobFormed, is-formed, job-formed}
 use Rattle.base.specs.Lists.{_∈_, SameSet, Distinct, anyOf, allOf, once, concat, flatMap}
 use Rattle.base.proofs.Lists.{all-has, has-all, any-has, has-any, same-is, same-sym, same-trans}
-use Rattle.words.specs.Compare.{Op, less, atMost, equal, atLeast, more, opOf}
-use Rattle.model.specs.Tables.{Clause, Against, column, number, comparisonHolds, Bounds, Table, Row, OutputRow, Comparison, Expression, Job, clauseHolds, meets, outputsOf, uses, tableOf, within, Database, WithinBounds, rowsOf, columnsOf, Condition, value, conditionHolds, partOf, TableRow}
-use Rattle.model.specs.Coded.{opAt, numberOfOp, sideOf, sideNumber, sideValue}
+use Rattle.model.specs.Tables.{Clause, comparisonHolds, Bounds, Table, Row, OutputRow, Comparison, Expression, Job, clauseHolds, meets, outputsOf, uses, tableOf, within, Database, WithinBounds, rowsOf, columnsOf, Condition, value, conditionHolds, partOf, TableRow}
 use Rattle.model.specs.WellFormed.{tableFormed, expressionFormed, structured, inScope}
 use Rattle.model.specs.Rows.{someRow, twoRows, sameRow}
 use Rattle.model.specs.Least.{atMostRow, leastRow}
@@ -223,32 +218,3 @@ module _ (bs : List Bounds) (ks : List Comparison) where
     λ e. let ((w, h), low) = least.least-is bs ks r e in (w, h, λ s v i. low s (v, i)),
     λ (w, h, low). least.is-least bs ks r (w, h) (λ s (v, i). low s v i),
   )
-
--- ---- comparisons as code holds them: the ops' numbers are document 01's, and both parts stand for one comparison
-pub op-at : (n : ℕ) → n ≤ 4 → opOf n ≡ some (opAt n)
-op-at zero h = refl
-op-at (suc zero) h = refl
-op-at (suc (suc zero)) h = refl
-op-at (suc (suc (suc zero))) h = refl
-op-at (suc (suc (suc (suc zero)))) h = refl
-op-at (suc (suc (suc (suc (suc n))))) h = absurd (omega arith)
-
-pub op-number : (o : Op) → opAt (numberOfOp o) ≡ o
-op-number less = refl
-op-number atMost = refl
-op-number equal = refl
-op-number atLeast = refl
-op-number more = refl
-
--- and back
-pub op-back : (n : ℕ) → n ≤ 4 → numberOfOp (opAt n) ≡ n
-op-back zero h = refl
-op-back (suc zero) h = refl
-op-back (suc (suc zero)) h = refl
-op-back (suc (suc (suc zero))) h = refl
-op-back (suc (suc (suc (suc zero)))) h = refl
-op-back (suc (suc (suc (suc (suc n))))) h = absurd (omega arith)
-
-pub side-number : (a : Against) → sideOf (sideNumber a) (sideValue a) ≡ a
-side-number (column c) = rw (ne-eqb (suc c) 0 (λ e. omega arith), sub-one)
-side-number (number v) = refl

@@ -1,5 +1,4 @@
 pub mod Tables
-pub mod Coded
 pub mod WellFormed
 pub mod Rows
 pub mod Least

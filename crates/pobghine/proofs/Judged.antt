@@ -32,7 +32,8 @@ pub is-judged : (j : model.Job) → T (wellFormed j) → T (isRead (recordOf j))
 unfolding isRead
 is-judged j w = rw (meaning-back j w, same-self (recordOf j), T-is (wellFormed j) w) tt
 
-pub whole-is : (x : Reading) (r : Job) → decodedOf x ≡ record { answer = Whole; job = r } → (j : model.Job) × (x ≡ accepted j) × (recordOf j ≡ r)
+pub whole-is : (x : Reading) (r : Job) → decodedOf x ≡ record { answer = Whole; job = r }
+    → (j : model.Job) × (x ≡ accepted j) × (recordOf j ≡ r)
 whole-is (accepted j) r e = (j, refl, ap (λ (d : Decoded). d .job) e)
 whole-is (refused n at) r e =
     let f : Refused n at ≡ Whole = ap (λ (d : Decoded). d .answer) e in
@@ -50,7 +51,8 @@ module _ (r : Job) (d : Decoded) (e : d ≡ decodedOf (readOf (bytesOf r))) wher
     where
       to : T (sameJob r (d .job)) → T (isRead r)
       to t =
-          let f : decodedOf (readOf (bytesOf r)) ≡ record { answer = Whole; job = d .job } = sym e ∙ ap (λ x. record { answer = x; job = d .job }) w in
+          let f : decodedOf (readOf (bytesOf r)) ≡ record { answer = Whole; job = d .job }
+          = sym e ∙ ap (λ x. record { answer = x; job = d .job }) w in
           let (j, a, g) = whole-is (readOf (bytesOf r)) (d .job) f in
           rw (same-is r (d .job) t) (rw g at (is-judged j (layout.read-formed (bytesOf r) j a)))
 

@@ -1,5 +1,5 @@
--- Reading and writing are each other's inverse on the records that reading gives, and these stand for the well-formed jobs; deciding says which
--- of these are computable. Assumes nothing.
+-- Reading and writing are each other's inverse on the records that reading gives, and these stand for the well-formed jobs; deciding
+-- says which of these are computable. Assumes nothing.
 use mathlib.Core.Path.{_≡_, refl, sym, ap, _∙_}
 use mathlib.Core.Logic.{_↔_}
 use mathlib.Core.List.{List, _++_}
@@ -22,8 +22,8 @@ use Rattle.layout.specs.Reading.{readOf}
 use Rattle.layout.proofs.Theorems as layout
 use Rattle.reader.specs.declared.Answer.the-variants.{Whole}
 use Rattle.reader.specs.Answers.{decodedOf}
-use Rattle.verdict.specs.declared.Database.{Database}
-use Rattle.verdict.specs.Databases.{noDatabase, databaseOf}
+use Rattle.databases.specs.declared.Database.{Database}
+use Rattle.databases.specs.Databases.{noDatabase, databaseOf}
 use Rattle.pobghine.specs.declared.Written.the-variants.{Count}
 use Rattle.pobghine.specs.declared.Decision.{Decision}
 use Rattle.pobghine.specs.declared.Decision.the-variants.{Kind, Refused}

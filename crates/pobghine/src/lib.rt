@@ -5,10 +5,11 @@ ghost use Rattle.layout.specs.Reading.{readOf};
 ghost use Rattle.reader.specs.Answers.{decodedOf};
 ghost use Rattle.pobghine.specs.Records.{isRead, writtenOf, lentAfter};
 ghost use Rattle.pobghine.specs.Deciding.{decisionOf, listingIn, PairOf};
+use databases::Database;
+use job::Columns;
 use job::Job;
 use reader::Answer;
 use reader::Decoded;
-use verdict::Database;
 
 // Reads a job: its record, or a refusal with the empty record beside it.
 pub fn read(s: &[u8]) -> Decoded
@@ -76,7 +77,7 @@ pub fn decide(job: Job) -> Decided
     ensures databases { λ r. ⌜ PairOf job (r .first) (r .second) ⌝ }
 {
     if !is_read(job) {
-        let none = verdict::no_database();
+        let none = databases::no_database();
         return Decided {
             answer: Decision::Refused(12, 0),
             listing: [0; Job::COLUMNS],
@@ -84,7 +85,15 @@ pub fn decide(job: Job) -> Decided
             second: none,
         };
     }
-    let v = verdict::decide(job);
+    let columns = job.columns;
+    let declared = Columns {
+        tables: job.tables,
+        width: job.width,
+        columns,
+    };
+    let extract = job.extract;
+    let query = job.query;
+    let v = verdict::decide(declared, extract, query);
     let kind = v.kind;
     let listing = v.listing;
     let first = v.first;

@@ -7,7 +7,6 @@ use Prim.Native.Nat.{ℕ, _+_, _≤_, _<_}
 use lib.ListN.{length, getD}
 use lib.Dec.{eqb, leb}
 use borrow.Author.Tests.{lt-ltb, le-ltb}
-use Rattle.job.specs.declared.Expression.{Expression}
 use Rattle.job.specs.declared.Job.{Job}
 use Rattle.job.specs.Meaning.{recordOf}
 use Rattle.layout.specs.declared.Command.{Command}
@@ -15,6 +14,7 @@ use Rattle.layout.specs.Commands.{commandOf, operands, entryAt}
 use Rattle.layout.specs.Reading.{State, Step, next, current, follows, hasRoom, hasOperands, inRanges, opKnown, declared, isNew}
 use Rattle.layout.specs.Reading.{added, after, check, taken, stepOf}
 use Rattle.commands.specs.declared.Cursor.{Cursor}
+use Rattle.commands.specs.declared.Draft.{Draft}
 use Rattle.commands.specs.declared.Addition.{Addition}
 use Rattle.commands.specs.declared.Listed.the-variants.{As, Unlisted}
 use Rattle.commands.specs.declared.Judged.{Judged}
@@ -60,57 +60,59 @@ module _ (s : List ℕ) (at : ℕ) (st : State) (b : ℕ) (c : Command) where
   step-entered x e f g k =
       let entry = entryAt c s at in
       rw (f, g, k, e)
-      (judged-as (recordOf (added (st .inQuery) (st .job) (current st) entry)) (next (at + 1 + operands c) (after b entry st)) (inRanges entry)
+      (judged-as (recordOf (added (st .inQuery) (st .job) (current st) entry)) (next (at + 1 + operands c) (after b entry st))
+      (inRanges entry)
       (opKnown entry) (declared (st .job .tables) (current st) entry) (isNew (current st) entry) refl)
 
-module _ (s : List ℕ) (cur : Cursor) (job : Job) (e : Expression) where
+module _ (s : List ℕ) (cur : Cursor) (job : Job) (d : Draft) where
   abbrev at : ℕ
   at = cur .at
 
   abbrev st : State
-  st = stateIn cur job e
+  st = stateIn cur job d
 
-  pub step-none : length s ≤ at → Takes cur job e (stepOf s at st) (Refused 2 (length s))
+  pub step-none : length s ≤ at → Takes cur job d (stepOf s at st) (Refused 2 (length s))
   unfolding stepOf
   step-none h = record { told = rw (le-ltb at (length s) h); fits = tt }
 
-  pub step-unlisted : at < length s → Unlisted ≡ listedOf (commandOf (getD s at 0)) → Takes cur job e (stepOf s at st) (Refused 3 at)
+  pub step-unlisted : at < length s → Unlisted ≡ listedOf (commandOf (getD s at 0)) → Takes cur job d (stepOf s at st) (Refused 3 at)
   unfolding stepOf
   step-unlisted h n = record { told = rw (lt-ltb at (length s) h, listed-none (commandOf (getD s at 0)) n); fits = tt }
 
-  pub step-listed : (r : Took) (c : Command) → Takes cur job e (taken s at st (getD s at 0) c) r → at < length s
-      → As c ≡ listedOf (commandOf (getD s at 0)) → Takes cur job e (stepOf s at st) r
+  pub step-listed : (r : Took) (c : Command) → Takes cur job d (taken s at st (getD s at 0) c) r → at < length s
+      → As c ≡ listedOf (commandOf (getD s at 0)) → Takes cur job d (stepOf s at st) r
   unfolding stepOf
   step-listed r c t h n = record { told = rw (lt-ltb at (length s) h, listed-some (commandOf (getD s at 0)) c n) (t .told); fits = t .fits }
 
   module _ (b : ℕ) (c : Command) where
-    pub not-due : follows st c ≡ false → Takes cur job e (taken s at st b c) (Refused 4 at)
+    pub not-due : follows st c ≡ false → Takes cur job d (taken s at st b c) (Refused 4 at)
     unfolding taken
     not-due f = record { told = rw f; fits = tt }
 
-    pub no-room : follows st c ≡ true → hasRoom st c ≡ false → Takes cur job e (taken s at st b c) (Refused 5 at)
+    pub no-room : follows st c ≡ true → hasRoom st c ≡ false → Takes cur job d (taken s at st b c) (Refused 5 at)
     unfolding taken
     no-room f g = record { told = rw (f, g); fits = tt }
 
-    pub too-short : follows st c ≡ true → hasRoom st c ≡ true → hasOperands s at c ≡ false → Takes cur job e (taken s at st b c) (Refused 6 at)
+    pub too-short : follows st c ≡ true → hasRoom st c ≡ true → hasOperands s at c ≡ false
+        → Takes cur job d (taken s at st b c) (Refused 6 at)
     unfolding taken
     too-short f g k = record { told = rw (f, g, k); fits = tt }
 
     -- through the checks 7 to 10
-    module _ (j : Judged) (is : Judges cur job e (entryAt c s at) j) (f : follows st c ≡ true) (g : hasRoom st c ≡ true)
+    module _ (j : Judged) (is : Judges cur job d (entryAt c s at) j) (f : follows st c ≡ true) (g : hasRoom st c ≡ true)
         (k : hasOperands s at c ≡ true) where
       pub went-on : (x : Addition) (q : Bool) (n : ℕ) → j ≡ Added x → q ≡ (st .inQuery || eqb b 0x21) → n ≡ operands c
-          → Takes cur job e (taken s at st b c) (Next (record { at = at + 1 + n; last = b; «in_query» = q }) x)
+          → Takes cur job d (taken s at st b c) (Next (record { at = at + 1 + n; last = b; «in_query» = q }) x)
       went-on x q n d o m =
           let added = rw d at is in
           record { told = rw (o, m) (step-entered s at st b c _ (added .told) f g k); fits = added .fits }
 
-      pub broke-off : (n : ℕ) → j ≡ Fault n → Takes cur job e (taken s at st b c) (Refused n at)
+      pub broke-off : (n : ℕ) → j ≡ Fault n → Takes cur job d (taken s at st b c) (Refused n at)
       broke-off n d =
           let fault = rw d at is in
           record { told = step-entered s at st b c _ (fault .told) f g k; fits = tt }
 
 -- there is room for what a command that was taken adds
-pub room-for : (x : Addition) {cur new : Cursor} {job : Job} {e : Expression} {st : Step} {r : Took} {y : Addition} → Takes cur job e st r
-    → r ≡ Next new y → y ≡ x → Fits job e x
+pub room-for : (x : Addition) {cur new : Cursor} {job : Job} {d : Draft} {st : Step} {r : Took} {y : Addition} → Takes cur job d st r
+    → r ≡ Next new y → y ≡ x → Fits job d x
 room-for x t p q = rw q at ((rw p at t) .fits)

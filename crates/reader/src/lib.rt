@@ -4,17 +4,15 @@ ghost use mathlib.Core.Bool.{cond, not};
 ghost use Prim.Native.Nat.{_<_};
 ghost use lib.ListN.{length, getD};
 ghost use Rattle.layout.specs.Reading.{taken, stepOf, readOf};
-ghost use Rattle.commands.specs.Uses.{stateIn, currentIn, placed, tablesIn, withComparison, Held};
+ghost use Rattle.commands.specs.Uses.{stateIn, tablesIn, Held};
 ghost use Rattle.reader.specs.Answers.{decodedOf};
-ghost use Rattle.reader.specs.Uses.{Takes, refusedAt, passedOn, endedAt};
+ghost use Rattle.reader.specs.Uses.{Takes, refusedAt, passedOn};
 use commands::Addition;
 use commands::Cursor;
+use commands::Draft;
 use commands::Judged;
 use commands::Listed;
 use commands::Tables;
-use job::Clause;
-use job::Comparison;
-use job::Expression;
 use job::Job;
 use layout::Command;
 
@@ -36,44 +34,10 @@ pub struct Decoded {
     pub job: Job,
 }
 
-// ---- Parts of the record
-
-// While commands are read, the expression that they are for stands beside the record. What changes is changed in place, by `read` alone.
-
-// The expression that commands are for.
-fn current(job: Job, in_query: bool) -> Expression
-    ensures { λ r. ⌜ r ≡ currentIn in_query job ⌝ }
-{
-    if in_query { job.query } else { job.extract }
-}
-
-// It is taken out, changed, and put back: both expressions are of one type.
-fn with_current(job: Job, in_query: bool, e: Expression) -> Job
-    ensures { λ r. ⌜ r ≡ placed in_query job e ⌝ }
-{
-    if in_query {
-        Job { query: e, ..job }
-    } else {
-        Job { extract: e, ..job }
-    }
-}
-
-// A comparison more in a clause, which is changed by itself and then stored as a whole.
-fn longer(clause: Clause, k: Comparison) -> Clause
-    requires { ⌜ clause .size < 6 ⌝ }
-    ensures { λ r. ⌜ r ≡ withComparison clause k ⌝ }
-{
-    let n = clause.size;
-    let mut c = clause;
-    c.comparisons[n] = k;
-    c.size = n + 1;
-    c
-}
-
 // ---- Commands, one by one
 
 // A listed command, through the checks 4 to 10.
-fn take(s: &[u8], tables: &Tables, cur: Cursor, job: Job, e: Expression, c: Command) -> Took
+fn take(s: &[u8], tables: &Tables, cur: Cursor, job: Job, e: Draft, c: Command) -> Took
     requires { ⌜ (Held cur job e) × (cur .at < length (now s)) × (now tables ≡ tablesIn job) ⌝ }
     ensures { λ r. ⌜ Takes cur job e (taken (now (s .entry)) (cur .at) (stateIn cur job e) (getD (now (s .entry)) (cur .at) 0) c) r ⌝ }
 {
@@ -107,7 +71,7 @@ fn take(s: &[u8], tables: &Tables, cur: Cursor, job: Job, e: Expression, c: Comm
 }
 
 // One command, through the checks 2 to 10.
-fn step(s: &[u8], tables: &Tables, cur: Cursor, job: Job, e: Expression) -> Took
+fn step(s: &[u8], tables: &Tables, cur: Cursor, job: Job, e: Draft) -> Took
     requires { ⌜ (Held cur job e) × (now tables ≡ tablesIn job) ⌝ }
     ensures { λ r. ⌜ Takes cur job e (stepOf (now (s .entry)) (cur .at) (stateIn cur job e)) r ⌝ }
 {
@@ -152,21 +116,11 @@ fn differ(a: bool, b: bool) -> bool
     if a { !b } else { b }
 }
 
-// After the end nothing may follow.
-fn ended(s: &[u8], at: usize, job: Job) -> Decoded
-    ensures { λ r. ⌜ r ≡ endedAt (now (s .entry)) at job ⌝ }
-{
-    if at != s.len() {
-        return refused(11, at);
-    }
-    Decoded {
-        answer: Answer::Whole,
-        job: job,
-    }
-}
-
 // The job that some bytes stand for, or the first thing that is wrong with them. A command takes a byte or more, so that there are as many
 // commands as bytes at most.
+//
+// What a command adds is stored here, in place, and nowhere else: tables and columns in the record, the rest in the draft, which is put
+// into the record as a whole where the query begins and where the job ends.
 pub fn read(s: &[u8]) -> Decoded
     ensures { λ r. ⌜ r ≡ decodedOf (readOf (now (s .entry))) ⌝ }
 {
@@ -179,7 +133,7 @@ pub fn read(s: &[u8]) -> Decoded
         in_query: false,
     };
     let mut job = Job::empty();
-    let mut e = job.extract;
+    let mut e = Draft::empty();
     let mut tables = [0u8; Job::COLUMNS];
     let mut i = 0;
     while i < s.len() {
@@ -209,22 +163,34 @@ pub fn read(s: &[u8]) -> Decoded
                 e.outputs[n] = c;
                 e.width = n + 1;
             }
+            // The clause before it ends.
             Addition::Clause => {
                 let n = e.size;
+                let at = commands::last_place(n);
+                e.clauses[at] = e.last_clause();
                 e.size = n + 1;
+                e.comparisons = 0;
+                e.last = commands::no_comparisons();
             }
             Addition::Compared(k) => {
-                let last = e.size - 1;
-                let clause = e.clauses[last];
-                e.clauses[last] = longer(clause, k);
+                let n = e.comparisons;
+                e.last[n] = k;
+                e.comparisons = n + 1;
             }
         }
         if differ(cur.in_query, next.in_query) {
-            job = with_current(job, cur.in_query, e);
-            e = current(job, next.in_query);
+            job.extract = e.expression();
+            e = Draft::empty();
         }
         if next.last == 0xFF {
-            return ended(s, next.at, with_current(job, next.in_query, e));
+            if next.at != s.len() {
+                return refused(11, next.at);
+            }
+            job.query = e.expression();
+            return Decoded {
+                answer: Answer::Whole,
+                job,
+            };
         }
         cur = next;
         i += 1;

@@ -45,7 +45,8 @@ digits-more zero h = absurd (omega arith)
 digits-more (suc m) h = ap (λ l. l ++ ((48 + suc m % 10) ∷ [])) (written-digits m (suc m / 10) (omega arith) (omega arith))
 
 -- what holds of one digit, and goes on with each digit more, holds
-by-digits : (P : ℕ → Type 0) → ((n : ℕ) → n < 10 → P n) → ((n : ℕ) → 10 ≤ n → P (n / 10) → P n) → (n : ℕ) → P n
+by-digits : (P : ℕ → Type 0) → ((n : ℕ) → n < 10 → P n)
+    → ((n : ℕ) → 10 ≤ n → P (n / 10) → P n) → (n : ℕ) → P n
 by-digits P one more n = up-to n n (omega arith)
   where
     up-to : (k n : ℕ) → n ≤ k → P n
@@ -120,7 +121,8 @@ pub digits-few : (k n : ℕ) → n < 10 ^ suc k → length (digits n) ≤ suc k
 digits-few zero n h = rw (digits-one n h) (omega arith)
 digits-few (suc k) n h = go (ltb n 10) refl (digits-few k (n / 10))
   where
-    go : (b : Bool) → ltb n 10 ≡ b → (n / 10 < 10 ^ suc k → length (digits (n / 10)) ≤ suc k) → length (digits n) ≤ suc (suc k)
+    go : (b : Bool) → ltb n 10 ≡ b → (n / 10 < 10 ^ suc k → length (digits (n / 10)) ≤ suc k)
+        → length (digits n) ≤ suc (suc k)
     go true e front = rw (digits-one n (ltb-true n 10 e)) (omega arith)
     go false e front =
         let fewer = front ((div-lt-iff-lt-mul (omega arith)) .1 (rw (pow-suc 10 (suc k)) at h)) in

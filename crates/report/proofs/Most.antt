@@ -27,7 +27,8 @@ refusal-fits number at old byte word lent =
     rw (length-append (field "refused " number ++ field " at " at) (ascii "\n"), length-append (field "refused " number) (field " at " at))
     (omega (arith, one, two))
 
-pub verdict-fits : (kind : ℕ) (columns old : List ℕ) → kind < 256 → ((i : ℕ) → getD columns i 0 < 256) → length columns ≤ 16 → 81 ≤ length old
+pub verdict-fits : (kind : ℕ) (columns old : List ℕ) → kind < 256 → ((i : ℕ) → getD columns i 0 < 256)
+    → length columns ≤ 16 → 81 ≤ length old
     → length (verdictText kind columns) ≤ length old
 unfolding verdictText
 verdict-fits kind columns old byte bytes few lent =

@@ -31,7 +31,8 @@ module _ (number at : ℕ) (old : List ℕ) (fits : length (refusalText number a
   pub room-position : {new : List ℕ} {p : ℕ} → Puts old new 0 p (field "refused " number) → Room new p (field " at " at)
   room-position = room-next _ (field " at " at) position-room
 
-  pub room-refused : {new : List ℕ} {p : ℕ} → Puts old new 0 p (field "refused " number ++ field " at " at) → Room new p (ascii "\n")
+  pub room-refused : {new : List ℕ} {p : ℕ} → Puts old new 0 p (field "refused " number ++ field " at " at)
+      → Room new p (ascii "\n")
   room-refused = room-next _ (ascii "\n") refusal-room
 
   pub refusal-put : {new : List ℕ} {r : ℕ} → Puts old new 0 r (field "refused " number ++ field " at " at ++ ascii "\n")
@@ -56,14 +57,16 @@ module _ (kind : ℕ) (columns old : List ℕ) (fits : length (verdictText kind 
   pub room-word : {new : List ℕ} {p : ℕ} → Puts old new 0 p (field "kind " kind) → Room new p (ascii "\ncolumns")
   room-word = room-next _ (ascii "\ncolumns") word-room
 
-  pub room-columns : {new : List ℕ} {p : ℕ} → Puts old new 0 p (field "kind " kind ++ ascii "\ncolumns") → Room new p (flatMap columns (field " "))
+  pub room-columns : {new : List ℕ} {p : ℕ} → Puts old new 0 p (field "kind " kind ++ ascii "\ncolumns")
+      → Room new p (flatMap columns (field " "))
   room-columns = room-next _ (flatMap columns (field " ")) columns-room
 
   pub room-judged : {new : List ℕ} {p : ℕ}
       → Puts old new 0 p (field "kind " kind ++ ascii "\ncolumns" ++ flatMap columns (field " ")) → Room new p (ascii "\n")
   room-judged = room-next _ (ascii "\n") verdict-room
 
-  pub verdict-put : {new : List ℕ} {r : ℕ} → Puts old new 0 r (field "kind " kind ++ ascii "\ncolumns" ++ flatMap columns (field " ") ++ ascii "\n")
+  pub verdict-put : {new : List ℕ} {r : ℕ}
+      → Puts old new 0 r (field "kind " kind ++ ascii "\ncolumns" ++ flatMap columns (field " ") ++ ascii "\n")
       → (r ≡ length (verdictText kind columns)) × (new ≡ verdictText kind columns ++ drop (length (verdictText kind columns)) old)
   unfolding verdictText
   verdict-put = put-whole (verdictText kind columns) fits

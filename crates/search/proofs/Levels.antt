@@ -1,14 +1,13 @@
 -- One level of the search: the ways of one clause, each tried in turn with the later clauses. Assumes nothing.
-use mathlib.Core.Path.{_≡_, refl, _∙_, ap}
+use mathlib.Core.Path.{_≡_, _∙_}
 use mathlib.Core.Bool.{Bool, true, false}
-use mathlib.Core.List.{List, [], _∷_}
+use mathlib.Core.List.{List, []}
 use mathlib.Core.Option.{Option, none, some}
-use Prim.Native.Nat.{ℕ, zero, suc, _+_, _-_, _<_, _≤_}
+use Prim.Native.Nat.{ℕ, suc, _+_, _*_, _<_, _≤_}
 use native.Mathlib.Omega.{arith}
 use lib.ListN.{length, getD, drop, drop-of-length-le}
 use lib.Seq.{drop-cons}
-use mir.Syntax.{w64}
-use mir.Val.{Fits}
+use Rattle.base.specs.Lists.{at}
 use Rattle.base.specs.Options.{andThen, firstOf}
 use Rattle.base.proofs.Options.{none-of, then-none, then-some}
 use Rattle.base.proofs.Turns.{first-none, first-more, first-found}
@@ -16,179 +15,170 @@ use Rattle.zone.specs.declared.Constraint.{Constraint}
 use Rattle.zone.specs.Zone.{Zone}
 use Rattle.zone.specs.Array.{zoneIn}
 use Rattle.zone.specs.Uses.{InArray}
-use Rattle.conditions.specs.declared.Ways.{Ways}
-use Rattle.conditions.specs.declared.Choices.{Choices}
-use Rattle.conditions.specs.Breaking.{chosen}
-use Rattle.conditions.specs.Records.{waysIn, wayAt, waysAt, choicesIn}
-use Rattle.conditions.specs.Uses.{WaysFit, ChoicesFit, Chooses}
-use Rattle.conditions.proofs.Sizes.{noWays, SizedChoices}
-use Rattle.conditions.proofs.Ahead.{noConstraint, ways-length, ways-at, choices-length, choices-at}
-use Rattle.conditions.proofs.Found.{Found, Ends, ends-some, ends-length}
-use Rattle.conditions.proofs.Chosen.{Choice, chosen-found}
-use Rattle.search.specs.Search.{broken}
+use Rattle.conditions.proofs.Meeting.{Found, Ends, ends-some}
+use Rattle.breaking.specs.declared.Choices.{Choices}
+use Rattle.breaking.specs.Breaking.{chosen}
+use Rattle.breaking.specs.Places.{wayIn, choicesIn, clauseWays, inOrder}
+use Rattle.breaking.specs.Uses.{WaysFit, ChoicesFit, Chooses}
+use Rattle.breaking.proofs.Ways.{noConstraint, ways-length, ways-at}
+use Rattle.breaking.proofs.Clauses.{order-length, order-at}
+use Rattle.breaking.proofs.Chosen.{chosen-found}
+use Rattle.search.specs.declared.Level.{Level}
+use Rattle.search.specs.Order.{weights, orderBy}
+use Rattle.search.specs.Search.{broken, brokenBy, levelAt}
+use Rattle.search.proofs.Order.{Four, order-length as length-ordered, order-below}
 
--- ---- The choices, for all levels
+-- choices between n nodes, in an order
+pub record Ready (n : ℕ) (k : Choices) (ws o : List ℕ) : Type 0 where
+  pub size : length ws ≡ 144
+  pub fit : ChoicesFit n k ws
+  pub order : Four o
 
--- they have their lengths and are between n nodes, and ws are the ways of each clause
-pub record Ready (n : ℕ) (k : Choices) (ws : List Ways) : Type 0 where
-  pub sized : SizedChoices k
-  pub fit : ChoicesFit n k
-  pub same : (q : ℕ) → q < 4 → getD ws q noWays ≡ waysAt k q
+-- the clauses in that order
+abbrev pub ordered : Choices → List ℕ → List ℕ → List (List Constraint)
+ordered k ws o = inOrder o (choicesIn k ws)
 
-pub all-ready : {n : ℕ} {k : Choices} {one two three four : Ways} → SizedChoices k → ChoicesFit n k
-    → one ≡ waysAt k 0 → two ≡ waysAt k 1 → three ≡ waysAt k 2 → four ≡ waysAt k 3 → Ready n k (one ∷ two ∷ three ∷ four ∷ [])
-all-ready {n} {k} {one} {two} {three} {four} sized fit a b c d = record { sized = sized; fit = fit; same = same }
-  where
-    same : (q : ℕ) → q < 4 → getD (one ∷ two ∷ three ∷ four ∷ []) q noWays ≡ waysAt k q
-    same zero h = a
-    same (suc zero) h = b
-    same (suc (suc zero)) h = c
-    same (suc (suc (suc zero))) h = d
-    same (suc (suc (suc (suc q)))) h = absurd (omega arith)
+-- what comes of one way of clause j: rows of the zone that also break the later clauses, or none
+abbrev pub tried : List (List Constraint) → ℕ → Zone → Constraint → Option Zone
+tried ks j z c = andThen (chosen z c (drop (suc j) ks)) (λ y. broken y (drop (suc j) ks))
 
--- ---- The ways of clause j
-
--- what comes of one of them: rows of the zone that also break the later clauses, or none
-abbrev pub tried : Choices → ℕ → Zone → Constraint → Option Zone
-tried k j z c = andThen (chosen z c (drop (suc j) (choicesIn k))) (λ y. broken y (drop (suc j) (choicesIn k)))
-
--- a loop over them for the rows of the zone in x, in a search for o: before way i nothing was found, and `out` is as it was
-pub record Level (n : ℕ) (k : Choices) (ws : List Ways) (o : Option Zone) (j : ℕ) (x : List ℕ) (i : ℕ) (found : Bool) (old out : List ℕ) : Type 0 where
-  pub ready : Ready n k ws
+-- a loop over the ways of clause j for the rows of the zone in x, in a search for o: before way i nothing was found
+pub record Trying (n : ℕ) (k : Choices) (ws o : List ℕ) (goal : Option Zone) (j : ℕ) (x : List ℕ) (i : ℕ) (found : Bool) : Type 0 where
+  pub ready : Ready n k ws o
   pub in-four : j < 4
   pub in-array : InArray n x
-  pub barren : firstOf (drop i (waysIn (getD ws j noWays))) (tried k j (zoneIn n x)) ≡ broken (zoneIn n x) (drop j (choicesIn k))
-  pub wins : (y : Zone) → broken (zoneIn n x) (drop j (choicesIn k)) ≡ some y → o ≡ some y
+  pub barren : firstOf (drop i (clauseWays k ws (at o j))) (tried (ordered k ws o) j (zoneIn n x)) ≡ broken (zoneIn n x) (drop j (ordered k ws o))
+  pub wins : (y : Zone) → broken (zoneIn n x) (drop j (ordered k ws o)) ≡ some y → goal ≡ some y
   pub not-yet : found ≡ false
-  pub same : out ≡ old
-  pub room : length out ≡ 1089
 
-module _ {n : ℕ} {k : Choices} {ws : List Ways} {o : Option Zone} (ready : Ready n k ws) (j : ℕ) (in-four : j < 4) where
-  pub level-start : {x out : List ℕ} {found : Bool} → InArray n x → ((y : Zone) → broken (zoneIn n x) (drop j (choicesIn k)) ≡ some y → o ≡ some y)
-      → found ≡ false → length out ≡ 1089 → Level n k ws o j x 0 found out out
-  level-start {x} u wins not-yet room =
-      let four = ready .sized .clauses in
+module _ {n : ℕ} {k : Choices} {ws o : List ℕ} {goal : Option Zone} (ready : Ready n k ws o) (j : ℕ) (in-four : j < 4) where
+  pub level-start : {x : List ℕ} {found : Bool} → InArray n x
+      → ((y : Zone) → broken (zoneIn n x) (drop j (ordered k ws o)) ≡ some y → goal ≡ some y)
+      → found ≡ false → Trying n k ws o goal j x 0 found
+  level-start {x} u wins not-yet =
+      let four = ready .order .four in
       record {
         ready = ready;
         in-four = in-four;
         in-array = u;
-        barren = rw (ready .same j in-four, drop-cons (choicesIn k) j [] (omega (arith, choices-length k four)), choices-at k four j);
+        barren = rw (drop-cons (ordered k ws o) j [] (omega (arith, order-length k ws o four)), order-at k ws o four (ready .order .below) j in-four);
         wins = wins;
         not-yet = not-yet;
-        same = refl;
-        room = room;
       }
 
-module _ {n : ℕ} {k : Choices} {ws : List Ways} {o : Option Zone} {j : ℕ} {x : List ℕ} {i : ℕ} {found : Bool} {old out : List ℕ}
-    (l : Level n k ws o j x i found old out) where
-  abbrev w : Ways
-  w = getD ws j noWays
+-- nothing came of any way
+pub level-end : {n : ℕ} {k : Choices} {ws o : List ℕ} {goal : Option Zone} {j : ℕ} {x : List ℕ} {i : ℕ} {found : Bool}
+    → Trying n k ws o goal j x i found → {lv : Level} → lv ≡ levelAt k o j → lv .count ≤ i → broken (zoneIn n x) (drop j (ordered k ws o)) ≡ none
+level-end {n} {k} {ws} {o} {goal} {j} {x} {i} l is h =
+    let past : levelAt k o j .count ≤ i = rw is at h in
+    first-none (tried (ordered k ws o) j (zoneIn n x)) noConstraint (clauseWays k ws (at o j)) i (l .barren)
+    (omega (arith, ways-length ws (36 * at o j) (at (k .sizes) (at o j))))
 
-  fits : WaysFit n w
-  fits = rw (l .ready .same j (l .in-four)) (l .ready .fit j (l .in-four))
+module _ {n : ℕ} {k : Choices} {ws o : List ℕ} {goal : Option Zone} {j : ℕ} {x : List ℕ} {i : ℕ} {found : Bool}
+    (l : Trying n k ws o goal j x i found) where
+  abbrev ks : List (List Constraint)
+  ks = ordered k ws o
 
-  twelve : length (w .ways) ≡ 12
-  twelve = rw (l .ready .same j (l .in-four)) (l .ready .sized .ways j (l .in-four))
+  abbrev from : ℕ
+  from = 36 * at o j
 
-  size : length (waysIn w) ≡ w .size
-  size = ways-length w twelve (fits .small)
+  abbrev count : ℕ
+  count = at (k .sizes) (at o j)
 
-  -- nothing came of any way
-  pub level-end : getD ws j noWays .size ≤ i → broken (zoneIn n x) (drop j (choicesIn k)) ≡ none
-  level-end h = first-none (tried k j (zoneIn n x)) noConstraint (waysIn w) i (l .barren) (omega (arith, size))
+  fits : WaysFit n ws from count
+  fits = l .ready .fit (at o j) (l .ready .order .below j (l .in-four))
 
-  module _ (h : i < getD ws j noWays .size) where
-    pub level-asks : {to : List ℕ} → length to ≡ 1089 → Chooses n x to (getD ws j noWays) i k
-    level-asks full = record { in-array = l .in-array; full = full; ways = fits; more = h; choices = l .ready .fit }
+  size : length (clauseWays k ws (at o j)) ≡ count
+  size = ways-length ws from count
 
-    -- the next way has a number too
-    pub level-next : Fits w64 (i + 1)
-    level-next = omega (arith, fits .small)
+  -- lv is the level as the code has it
+  module _ {lv : Level} (is : lv ≡ levelAt k o j) (more : i < lv .count) where
+    h : i < count
+    h = rw is at more
 
-    here : {a : Option Zone} → tried k j (zoneIn n x) (wayAt w i) ≡ a → tried k j (zoneIn n x) (getD (waysIn w) i noConstraint) ≡ a
-    here e = rw (ways-at w twelve (fits .small) i h) e
+    -- way i has a place
+    pub level-place : lv .from + 3 * i + 3 ≤ 144
+    level-place = rw is (omega (arith, fits .room, h, l .ready .size))
+
+    asked : (to : List ℕ) → n * 33 ≤ length to → Chooses n x to (from + 3 * i) k ws o
+    asked to room = record {
+      in-array = l .in-array;
+      room = room;
+      there = omega (arith, fits .room, h);
+      way = fits .each i h;
+      choices = l .ready .fit;
+      order = l .ready .order .below;
+    }
+
+    pub level-asks : (to : List ℕ) → n * 33 ≤ length to → Chooses n x to (lv .from + 3 * i) k ws o
+    level-asks to room = rw is (asked to room)
+
+    abbrev way : Constraint
+    way = wayIn ws (from + 3 * i)
+
+    here : {a : Option Zone} → tried ks j (zoneIn n x) way ≡ a → tried ks j (zoneIn n x) (getD (clauseWays k ws (at o j)) i noConstraint) ≡ a
+    here e = rw (ways-at ws from count i h) e
 
     -- something comes of way i
-    stops : {y : Zone} → tried k j (zoneIn n x) (wayAt w i) ≡ some y → broken (zoneIn n x) (drop j (choicesIn k)) ≡ some y
-    stops e = first-found (tried k j (zoneIn n x)) noConstraint (waysIn w) i (l .barren) (omega (arith, size)) (here e)
+    stops : {y : Zone} → tried ks j (zoneIn n x) way ≡ some y → broken (zoneIn n x) (drop j ks) ≡ some y
+    stops e = first-found (tried ks j (zoneIn n x)) noConstraint (clauseWays k ws (at o j)) i (l .barren) (omega (arith, size, h)) (here e)
 
     -- nothing does
-    goes-on : {found′ : Bool} {out′ : List ℕ} → tried k j (zoneIn n x) (wayAt w i) ≡ none → found′ ≡ false → out′ ≡ out
-        → Level n k ws o j x (i + 1) found′ old out′
-    goes-on e not-yet same = record {
+    goes-on : {found′ : Bool} → tried ks j (zoneIn n x) way ≡ none → found′ ≡ false → Trying n k ws o goal j x (i + 1) found′
+    goes-on e not-yet = record {
       ready = l .ready;
       in-four = l .in-four;
       in-array = l .in-array;
-      barren = first-more (tried k j (zoneIn n x)) noConstraint (waysIn w) i (l .barren) (omega (arith, size)) (here e);
+      barren = first-more (tried ks j (zoneIn n x)) noConstraint (clauseWays k ws (at o j)) i (l .barren) (omega (arith, size, h)) (here e);
       wins = l .wins;
       not-yet = not-yet;
-      same = same ∙ l .same;
-      room = ap length same ∙ l .room;
     }
 
--- each way tried leaves fewer
-pub fewer : {i s : ℕ} → i < s → s - (i + 1) < s - i
-fewer h = omega arith
+    -- ---- one turn: r and e are what choosing way i answers and leaves in place of `to`
+    module _ (to : List ℕ) (room : n * 33 ≤ length to) {r : Bool} (e : List ℕ)
+        (told : Ends n (chosen (zoneIn n x) (wayIn ws (lv .from + 3 * i)) (drop (suc j) (ordered k ws o))) r e)
+        (kept : length e ≡ length to) where
+      abbrev taken : Option Zone
+      taken = chosen (zoneIn n x) way (drop (suc j) ks)
 
--- ---- One turn: r and e are what choosing way i answers and leaves in place of `to`
+      abbrev later : Zone → Option Zone
+      later y = broken y (drop (suc j) ks)
 
-pub record Turn (n : ℕ) (k : Choices) (ws : List Ways) (o : Option Zone) (j : ℕ) (x : List ℕ) (i : ℕ) (found : Bool) (old out to : List ℕ)
-    (r : Bool) (e : List ℕ) : Type 0 where
-  pub level : Level n k ws o j x i found old out
-  pub more : i < getD ws j noWays .size
-  pub full : length to ≡ 1089
-  pub choice : Choice n x to (wayAt (getD ws j noWays) i) (drop (suc j) (choicesIn k)) r e
+      choice : Ends n taken r e
+      choice = rw is at told
 
-pub turn : {n : ℕ} {k : Choices} {ws : List Ways} {o : Option Zone} {j : ℕ} {x : List ℕ} {i : ℕ} {found : Bool} {old out : List ℕ} {r : Bool} {e : List ℕ}
-    → Level n k ws o j x i found old out → i < getD ws j noWays .size → (to : List ℕ) → length to ≡ 1089
-    → Choice n x to (wayAt (getD ws j noWays) i) (drop (suc j) (choicesIn k)) r e → Turn n k ws o j x i found old out to r e
-turn l h to full choice = record { level = l; more = h; full = full; choice = choice }
+      found-there : r ≡ true → Found n taken e
+      found-there = chosen-found (asked to room) (drop (suc j) ks) choice kept
 
-module _ {n : ℕ} {k : Choices} {ws : List Ways} {o : Option Zone} {j : ℕ} {x : List ℕ} {i : ℕ} {found : Bool} {old out to : List ℕ} {r : Bool} {e : List ℕ}
-    (t : Turn n k ws o j x i found old out to r e) where
-  abbrev rest : List (List Constraint)
-  rest = drop (suc j) (choicesIn k)
+      -- what the later clauses leave is found
+      deeper : r ≡ true → (y : Zone) → broken (zoneIn n e) (drop (suc j) ks) ≡ some y → goal ≡ some y
+      deeper some-row y deep = l .wins y (stops (then-some later (found-there some-row .is) deep))
 
-  abbrev taken : Option Zone
-  taken = chosen (zoneIn n x) (wayAt (getD ws j noWays) i) rest
+      -- the loop over the ways of the next clause begins
+      pub turn-down : suc j < 4 → r ≡ true → Trying n k ws o goal (suc j) e 0 found
+      turn-down in-next some-row = level-start (l .ready) (suc j) in-next (found-there some-row .in-array) (deeper some-row) (l .not-yet)
 
-  abbrev later : Zone → Option Zone
-  later y = broken y rest
+      -- it ends with nothing
+      pub turn-barren : {i′ : ℕ} {found′ found″ : Bool} → r ≡ true → Trying n k ws o goal (suc j) e i′ found′ → {lv′ : Level} → lv′ ≡ levelAt k o (suc j)
+          → lv′ .count ≤ i′ → found″ ≡ found′ → Trying n k ws o goal j x (i + 1) found″
+      turn-barren some-row next there past same =
+          goes-on (then-some later (found-there some-row .is) (level-end next there past)) (same ∙ next .not-yet)
 
-  pub turn-room : length e ≡ 1089
-  turn-room = ends-length taken to (t .choice) ∙ t .full
+      -- it doesn't begin
+      pub turn-shut : {found′ : Bool} → r ≡ false → found′ ≡ found → Trying n k ws o goal j x (i + 1) found′
+      turn-shut no-row same = goes-on (then-none later (none-of taken (choice .0) no-row)) (same ∙ l .not-yet)
 
-  turn-found : r ≡ true → Found n taken to e
-  turn-found some-row = chosen-found (level-asks (t .level) (t .more) (t .full)) rest (t .choice) some-row
+      -- a way of the last clause is taken: the search is over
+      pub turn-ends : j ≡ 3 → r ≡ true → Ends n goal true e
+      turn-ends last some-row =
+          let all-broken = drop-of-length-le ks {i = suc j} (omega (arith, order-length k ws o (l .ready .order .four))) in
+          ends-some n e (deeper some-row (zoneIn n e) (rw all-broken))
 
-  -- what the later clauses leave is found
-  deeper : r ≡ true → (y : Zone) → broken (zoneIn n e) (drop (suc j) (choicesIn k)) ≡ some y → o ≡ some y
-  deeper some-row y deep = t .level .wins y (stops (t .level) (t .more) (then-some later (turn-found some-row .is) deep))
+-- ---- the whole search: o is the order, a what the clauses weigh
+pub order-four : (a : List ℕ) {o : List ℕ} → o ≡ orderBy a → Four o
+order-four a is = rw is (record { four = length-ordered a; below = order-below a })
 
-  -- the loop over the ways of the next clause begins
-  pub turn-down : suc j < 4 → r ≡ true → Level n k ws o (suc j) e 0 found out out
-  turn-down in-next some-row =
-      level-start (t .level .ready) (suc j) in-next (turn-found some-row .in-array) (deeper some-row) (t .level .not-yet) (t .level .room)
-
-  -- it ends with nothing
-  pub turn-barren : {i′ : ℕ} {found′ found″ : Bool} {out′ out″ : List ℕ} → r ≡ true → Level n k ws o (suc j) e i′ found′ out out′
-      → getD ws (suc j) noWays .size ≤ i′ → out″ ≡ out′ → found″ ≡ found′ → Level n k ws o j x (i + 1) found″ old out″
-  turn-barren some-row next past same-out same-found =
-      goes-on (t .level) (t .more) (then-some later (turn-found some-row .is) (level-end next past)) (same-found ∙ next .not-yet) (same-out ∙ next .same)
-
-  -- it doesn't begin
-  none-taken : r ≡ false → taken ≡ none
-  none-taken no-row = none-of taken (t .choice .0) no-row
-
-  pub turn-shut : {found′ : Bool} {out′ : List ℕ} → r ≡ false → out′ ≡ out → found′ ≡ found → Level n k ws o j x (i + 1) found′ old out′
-  turn-shut no-row same-out same-found = goes-on (t .level) (t .more) (then-none later (none-taken no-row)) (same-found ∙ t .level .not-yet) same-out
-
-  pub turn-same : r ≡ false → e ≡ to
-  turn-same no-row = rw (none-taken no-row) at (t .choice .1)
-
--- a way of the last clause is taken: the search is over, and the zone is laid over what stood there
-pub turn-ends : {n : ℕ} {k : Choices} {ws : List Ways} {o : Option Zone} {x : List ℕ} {i : ℕ} {found : Bool} {old out first : List ℕ} {r : Bool} {e : List ℕ}
-    → Turn n k ws o 3 x i found old out out r e → r ≡ true → old ≡ first → Ends o first true e
-turn-ends {k = k} {first = first} t some-row same =
-    let all-broken = drop-of-length-le (choicesIn k) {i = 4} (omega (arith, choices-length k (t .level .ready .sized .clauses))) in
-    ends-some first (deeper t some-row _ (rw all-broken)) (rw (t .level .same, same) at (turn-found t some-row .over))
+pub search-is : (z : Zone) (count : ℕ) (ks : List (List Constraint)) (a : List ℕ) {o : List ℕ} → a ≡ weights z count ks → o ≡ orderBy a
+    → broken z (inOrder o ks) ≡ brokenBy z count ks
+unfolding brokenBy
+search-is z count ks a e f = rw (f, e)

@@ -1,2 +1,4 @@
-pub mod Broken
+pub mod Order
+pub mod Weighing
 pub mod Levels
+pub mod Found

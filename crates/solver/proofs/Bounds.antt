@@ -46,7 +46,7 @@ module _ (d : List ℕ) (lo hi : List ℤ) (u : BoundsRoom d lo hi) where
   bounded = rw (los-back lo hi (u .same), his-back lo hi (u .same)) at (box-bounded (boundsOf lo hi) (u .fit))
 
   pub box-room : BoxRoom d (nodes lo) (nodes hi)
-  box-room = record { full = u .full; small = omega (arith, nodes-size lo, u .small); bounds = bounded }
+  box-room = record { room = omega (arith, nodes-size lo, u .room); small = omega (arith, nodes-size lo, u .small); bounds = bounded }
 
   pub box-is : boxed (nodes lo) (nodes hi) ≡ boxOf (boundsOf lo hi)
   unfolding boxOf

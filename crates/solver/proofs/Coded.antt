@@ -9,20 +9,20 @@ use lib.IntN.{ℤ, pos}
 use lib.Signed.{mag}
 use lib.Dec.{ltb, ltb→lt}
 use mir.Facts.{and-yes}
-use mir.Syntax.{w32}
-use mir.Val.{toZ, ofZ}
 use borrow.Author.Tests.{ne-eqb}
 use Rattle.base.specs.Lists.{at}
 use Rattle.base.proofs.Places.{tabulate-length, tabulate-at}
 use Rattle.words.specs.Word.{signBit}
-use Rattle.words.proofs.Stored.{stored}
 use Rattle.words.proofs.Biases.{biased-low, biased-high}
-use Rattle.model.specs.Coded.{opAt, sideOf}
+use Rattle.words.specs.Compare.{opAt}
+use Rattle.job.specs.declared.Comparison.{Comparison}
+use Rattle.job.specs.Record.{noComparison}
+use Rattle.job.specs.Meaning.{sideOf, comparisonOf}
 use Rattle.zone.specs.Zone.{Zone, level}
 use Rattle.solver.specs.Comparisons.{nodeOf, addedTo, between, against, constraintsOf, negationsOf}
 use Rattle.solver.specs.Solver.{againstFits, imposedBy, imposed}
-use Rattle.solver.specs.Lists.{coded, comparisonsOf}
-use Rattle.solver.specs.Uses.{Imposes, ImposesOne}
+use Rattle.solver.specs.Lists.{comparisonsOf}
+use Rattle.solver.specs.Uses.{ImposesNodes, Imposes}
 use Rattle.solver.proofs.Comparisons.{added-some, added-most}
 use Rattle.solver.proofs.Solver.{node-in}
 use Rattle.solver.proofs.Progress.{Next}
@@ -37,23 +37,23 @@ pub word-added : (r : ℕ) (v : ℤ) → mag v < signBit 4 → (0 < addedTo (sid
 word-added zero v h = (omega (arith, biased-low level (signBit 4) v h), omega (arith, biased-high level (signBit 4) v h))
 word-added (suc r) v h = rw (ne-eqb (suc r) 0 (λ e. omega arith)) (omega arith, omega arith)
 
-module _ (op left right : ℕ) (v : ℤ) {a b w : ℕ} (p : a ≡ left) (q : b ≡ right) (r : w ≡ addedTo (sideOf right v)) where
-  pub negations-are : against (opAt op) (a + 1) b w ≡ negationsOf (coded op left right v)
+module _ (k : Comparison) {a b w : ℕ} (p : a ≡ k .left) (q : b ≡ k .right) (r : w ≡ addedTo (sideOf (k .right) (k .number))) where
+  pub negations-are : against (opAt (k .op)) (a + 1) b w ≡ negationsOf (comparisonOf k)
   unfolding negationsOf
-  negations-are = rw (p, q, r, side-node right v, add-one left)
+  negations-are = rw (p, q, r, side-node (k .right) (k .number), add-one (k .left))
 
-  pub imposed-is : (z : Zone) → imposedBy z (between (opAt op) (a + 1) b w) ≡ imposed z (coded op left right v)
+  pub imposed-is : (z : Zone) → imposedBy z (between (opAt (k .op)) (a + 1) b w) ≡ imposed z (comparisonOf k)
   unfolding imposed constraintsOf
-  imposed-is z = rw (p, q, r, side-node right v, add-one left)
+  imposed-is z = rw (p, q, r, side-node (k .right) (k .number), add-one (k .left))
 
-  pub one-imposes : {n : ℕ} {d : List ℕ} → ImposesOne n d op left right v → Imposes (n + 1) d (a + 1) b w
-  one-imposes {n} u =
-      let side = sideOf right v in
-      let (l, t) = and-yes (ltb left n) (againstFits n side) (u .fit) in
+  pub nodes-asked : {n : ℕ} {d : List ℕ} → Imposes n d k → ImposesNodes (n + 1) d (a + 1) b w
+  nodes-asked {n} u =
+      let side = sideOf (k .right) (k .number) in
+      let (l, t) = and-yes (ltb (k .left) n) (againstFits n side) (u .fit) in
       record {
         in-array = u .in-array;
-        left-in = omega (arith, ltb→lt left n l);
-        right-in = omega (arith, side-node right v, node-in n side t);
+        left-in = omega (arith, ltb→lt (k .left) n l);
+        right-in = omega (arith, side-node (k .right) (k .number), node-in n side t);
         added-some = rw r (added-some n side t);
         added-most = rw r (added-most n side t);
       }
@@ -67,8 +67,8 @@ module _ (ops lefts rights : List ℕ) (numbers : List ℤ) where
   pub list-done : {k : ℕ} → length ops ≤ k → length (comparisonsOf ops lefts rights numbers) ≤ k
   list-done h = omega (arith, list-length)
 
-  -- with the number as the code reads it
-  pub list-next : {k : ℕ} → k < length ops → mag (getD numbers k (pos 0)) < 2147483648
-      → Next (comparisonsOf ops lefts rights numbers) k (coded (at ops k) (at lefts k) (at rights k) (toZ w32 (ofZ w32 (getD numbers k (pos 0)))))
+  -- the next of them; v is its number as the code reads it
+  pub list-next : {k : ℕ} {v : ℤ} → k < length ops → v ≡ getD numbers k (pos 0)
+      → Next (comparisonsOf ops lefts rights numbers) k (comparisonOf (record { op = at ops k; left = at lefts k; right = at rights k; number = v }))
   unfolding comparisonsOf
-  list-next {k} h f = (omega (arith, list-length), rw (stored _ f) (tabulate-at (length ops) _ k (coded 0 0 0 (pos 0)) h))
+  list-next {k} h is = (omega (arith, list-length), rw is (tabulate-at (length ops) _ k (comparisonOf noComparison) h))

@@ -3,7 +3,7 @@ use mathlib.Core.Path.{_≡_, refl, sym, ap, _∙_}
 use mathlib.Core.Bool.{Bool, true, false, false≢true}
 use mathlib.Core.List.{List, [], _∷_}
 use mathlib.Core.Option.{Option, none, some, Option·none-ne-some, Option·some-injective}
-use Prim.Native.Nat.{ℕ, suc, _+_, _<_, _≤_}
+use Prim.Native.Nat.{ℕ, suc, _+_, _*_, _<_, _≤_}
 use native.Mathlib.Omega.{arith}
 use native.Mathlib.Numerals.{add-one}
 use lib.ListN.{length, getD, replicate}
@@ -42,7 +42,7 @@ reached-is z (k ∷ ks) y e = go (imposed z k) e (λ w q. reached-is w ks y q)
     go (some w) e next = next w e
 
 module _ (lo hi : List ℤ) (op left right : List ℕ) (numbers row : List ℤ) (u : Solves lo hi op left right numbers row)
-    (d : List ℕ) (full : length d ≡ 1089) (e : List ℕ) (boxed : e ≡ laid d (boxOf (boundsOf lo hi))) where
+    (d : List ℕ) (room : (length lo + 1) * 33 ≤ length d) (e : List ℕ) (boxed : e ≡ laid d (boxOf (boundsOf lo hi))) where
   abbrev bs : List Bounds
   bs = boundsOf lo hi
 
@@ -60,10 +60,10 @@ module _ (lo hi : List ℤ) (op left right : List ℕ) (numbers row : List ℤ) 
   small = omega (arith, u .small)
 
   box-in-array : InArray (length lo + 1) e
-  box-in-array = rw boxed (laid-in-array (length lo + 1) d (boxOf bs) full small (nodes-closed bs (u .bounds)) size)
+  box-in-array = rw boxed (laid-in-array (length lo + 1) d (boxOf bs) room small (nodes-closed bs (u .bounds)) size)
 
   box-zone : zoneIn (length lo + 1) e ≡ boxOf bs
-  box-zone = rw boxed (laid-is (length lo + 1) d (boxOf bs) full small (nodes-closed bs (u .bounds)) size)
+  box-zone = rw boxed (laid-is (length lo + 1) d (boxOf bs) room small (nodes-closed bs (u .bounds)) size)
 
   pub imposes : ImposesAll (length lo) e op left right numbers
   imposes = record { in-array = box-in-array; listed = u .listed }
@@ -112,20 +112,20 @@ module _ (lo hi : List ℤ) (op left right : List ℕ) (numbers row : List ℤ) 
     laid-y = left-over ∙ ap (laid e) (reached-is (zoneIn (length lo + 1) e) ks y (zone-all ∙ some-zone .1))
 
     in-array : InArray (length row + 1) g
-    in-array = rw (u .room, laid-y) (laid-in-array (length lo + 1) e y (box-in-array .full) small closed y-size)
+    in-array = rw (u .room, laid-y) (laid-in-array (length lo + 1) e y (box-in-array .room) small closed y-size)
 
     zone-y : zoneIn (length row + 1) g ≡ y
     zone-y =
         ap (λ (k : ℕ). zoneIn (k + 1) g) (u .room)
         ∙ ap (zoneIn (length lo + 1)) laid-y
-        ∙ laid-is (length lo + 1) e y (box-in-array .full) small closed y-size
+        ∙ laid-is (length lo + 1) e y (box-in-array .room) small closed y-size
 
     -- its values lie between the bounds, which are of 32 bits
     between : Between (nodes lo) (nodes hi) (leastOf y)
     between =
-        let room : BoundsRoom d lo hi = record { full = full; same = u .same; small = u .small; fit = u .bounds } in
-        box-rows (nodes lo) (nodes hi) (bounded d lo hi room) (leastOf y) .0
-        (rw (box-is d lo hi room) (some-zone .2 .2 (leastOf y) .0 (least-meets y closed) .0))
+        let asked : BoundsRoom d lo hi = record { room = room; same = u .same; small = u .small; fit = u .bounds } in
+        box-rows (nodes lo) (nodes hi) (bounded d lo hi asked) (leastOf y) .0
+        (rw (box-is d lo hi asked) (some-zone .2 .2 (leastOf y) .0 (least-meets y closed) .0))
 
     words : Words lo → Words hi → WordNodes (leastOf y) row
     words wl wh = record {

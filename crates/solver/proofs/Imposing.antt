@@ -22,7 +22,7 @@ use Rattle.words.specs.Compare.{Op, less, atMost, equal, atLeast, more}
 use Rattle.model.specs.Tables.{Comparison}
 use Rattle.solver.specs.declared.Constraints.{Constraints}
 use Rattle.solver.specs.Comparisons.{atMostBy, both, between}
-use Rattle.solver.specs.Uses.{Imposes}
+use Rattle.solver.specs.Uses.{ImposesNodes}
 use Rattle.solver.specs.Solver.{constrainedBy, imposedBy, imposed, imposedAll}
 use Rattle.solver.specs.Lists.{onward, reached}
 
@@ -90,7 +90,7 @@ between-two equal a b w t = refl
 between-two atLeast a b w t = absurd (false≢true t)
 between-two more a b w t = absurd (false≢true t)
 
-module _ (n : ℕ) (d : List ℕ) (o : Op) (a b w : ℕ) (u : Imposes n d a b w) (p : Constraints) (e : p ≡ between o a b w) where
+module _ (n : ℕ) (d : List ℕ) (o : Op) (a b w : ℕ) (u : ImposesNodes n d a b w) (p : Constraints) (e : p ≡ between o a b w) where
   abbrev z : Zone
   z = zoneIn n d
 
@@ -162,13 +162,13 @@ module _ (n : ℕ) (d : List ℕ) (o : Op) (a b w : ℕ) (u : Imposes n d a b w)
       tight-size = let (fl, fr, _) = parts .0 in tight-length z (p .first) cl (node _ fl) (node _ fr) (rw f tt) ∙ zone-length n d
 
       zone-is : zoneIn n x ≡ tightened z (p .first)
-      zone-is = rw tight (laid-is n d (tightened z (p .first)) (u .in-array .full) (u .in-array .small) tight-is-closed tight-size)
+      zone-is = rw tight (laid-is n d (tightened z (p .first)) (u .in-array .room) (u .in-array .small) tight-is-closed tight-size)
 
       pub next-constrains : Constrains n x (p .second)
       next-constrains =
           let (l, r, m) = parts .1 in
           record {
-            in-array = rw tight (laid-in-array n d (tightened z (p .first)) (u .in-array .full) (u .in-array .small) tight-is-closed tight-size);
+            in-array = rw tight (laid-in-array n d (tightened z (p .first)) (u .in-array .room) (u .in-array .small) tight-is-closed tight-size);
             left-in = l;
             right-in = r;
             most-fits = m;

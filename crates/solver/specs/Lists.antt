@@ -6,7 +6,7 @@ use lib.ListN.{length, getD, replicate}
 use lib.IntN.{ℤ, pos}
 use Rattle.base.specs.Lists.{tabulate, at}
 use Rattle.model.specs.Tables.{Bounds, Row, Comparison}
-use Rattle.model.specs.Coded.{opAt, sideOf}
+use Rattle.job.specs.Meaning.{comparisonOf}
 use Rattle.zone.specs.Zone.{Zone}
 use Rattle.solver.specs.Solver.{imposed}
 
@@ -15,12 +15,9 @@ boundsOf [] his = []
 boundsOf (lo ∷ los) [] = []
 boundsOf (lo ∷ los) (hi ∷ his) = record { lo = lo; hi = hi } ∷ boundsOf los his
 
--- a comparison with its op, its column, and a number and a value for its right side
-abbrev pub coded : ℕ → ℕ → ℕ → ℤ → Comparison
-coded op left right value = record { op = opAt op; left = left; right = sideOf right value }
-
 unfoldable pub comparisonsOf : List ℕ → List ℕ → List ℕ → List ℤ → List Comparison
-comparisonsOf ops lefts rights numbers = tabulate (length ops) (λ i. coded (at ops i) (at lefts i) (at rights i) (getD numbers i (pos 0)))
+comparisonsOf ops lefts rights numbers = tabulate (length ops) (λ i.
+    comparisonOf (record { op = at ops i; left = at lefts i; right = at rights i; number = getD numbers i (pos 0) }))
 
 -- what is written beside the answer: the row, or with none a zero for each of n columns
 abbrev pub rowOrZeros : ℕ → Option Row → Row

@@ -9,11 +9,13 @@ use lib.Dec.{T}
 use Rattle.base.specs.Lists.{allOf, at}
 use Rattle.words.specs.Bias.{bias}
 use Rattle.words.specs.Word.{signBit}
+use Rattle.job.specs.declared.Comparison.{Comparison}
+use Rattle.job.specs.Meaning.{comparisonOf}
 use Rattle.zone.specs.Zone.{level, leastOf}
 use Rattle.zone.specs.Array.{zoneIn}
 use Rattle.zone.specs.Uses.{InArray}
 use Rattle.solver.specs.Solver.{boundsFit, comparisonFits}
-use Rattle.solver.specs.Lists.{boundsOf, coded, comparisonsOf}
+use Rattle.solver.specs.Lists.{boundsOf, comparisonsOf}
 
 -- every value is of 32 bits; an i32 slice has no others, but a proof learns it only by reading them
 abbrev pub Words : List ℤ → Type 0
@@ -27,13 +29,13 @@ pub record WordNodes (x : List ℕ) (row : List ℤ) : Type 0 where
 
 -- an array, and bounds of at most 32 columns
 pub record BoundsRoom (d : List ℕ) (lo hi : List ℤ) : Type 0 where
-  pub full : length d ≡ 1089
+  pub room : (length lo + 1) * 33 ≤ length d
   pub same : length hi ≡ length lo
   pub small : length lo ≤ 32
   pub fit : T (allOf boundsFit (boundsOf lo hi))
 
 -- two nodes of a zone, and what is added to the second
-pub record Imposes (n : ℕ) (d : List ℕ) (a b added : ℕ) : Type 0 where
+pub record ImposesNodes (n : ℕ) (d : List ℕ) (a b added : ℕ) : Type 0 where
   pub in-array : InArray n d
   pub left-in : a < n
   pub right-in : b < n
@@ -41,9 +43,9 @@ pub record Imposes (n : ℕ) (d : List ℕ) (a b added : ℕ) : Type 0 where
   pub added-most : added < 2 * level
 
 -- a zone of n columns, and a comparison of these
-pub record ImposesOne (n : ℕ) (d : List ℕ) (op left right : ℕ) (number : ℤ) : Type 0 where
+pub record Imposes (n : ℕ) (d : List ℕ) (k : Comparison) : Type 0 where
   pub in-array : InArray (n + 1) d
-  pub fit : T (comparisonFits n (coded op left right number))
+  pub fit : T (comparisonFits n (comparisonOf k))
 
 -- lists of equal length, which are comparisons of n columns
 pub record Listed (n : ℕ) (op left right : List ℕ) (number : List ℤ) : Type 0 where

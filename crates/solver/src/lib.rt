@@ -8,10 +8,12 @@ ghost use Rattle.model.specs.Least.{leastRow};
 ghost use Rattle.zone.specs.Zone.{level, kept, leastOf};
 ghost use Rattle.zone.specs.Array.{zoneIn, laid};
 ghost use Rattle.solver.specs.Solver.{nodes, rowOf, boxOf, imposedBy, imposed, imposedAll};
-ghost use Rattle.solver.specs.Uses.{Words, WordNodes, BoundsRoom, Imposes, ImposesOne, ImposesAll, LeastRoom, Solves};
+ghost use Rattle.solver.specs.Uses.{Words, WordNodes, BoundsRoom, ImposesNodes, Imposes, ImposesAll, LeastRoom, Solves};
 ghost use Rattle.solver.specs.Comparisons.{addedTo, atMostBy, one, between, against, negationsOf};
-ghost use Rattle.model.specs.Coded.{opAt, sideOf};
-ghost use Rattle.solver.specs.Lists.{boundsOf, coded, comparisonsOf, reached, rowOrZeros};
+ghost use Rattle.words.specs.Compare.{opAt};
+ghost use Rattle.job.specs.Meaning.{sideOf, comparisonOf};
+ghost use Rattle.solver.specs.Lists.{boundsOf, comparisonsOf, reached, rowOrZeros};
+use job::Comparison;
 use zone::Constraint;
 
 // Ops by their numbers: those by which two values differ, and the others that stand for a failed one.
@@ -130,7 +132,7 @@ fn clear(row: &mut [i32])
 }
 
 // The zone of the rows within bounds.
-pub fn set_bounds(d: &mut [u64; zone::SIZE], lo: &[i32], hi: &[i32])
+pub fn set_bounds(d: &mut [u64], lo: &[i32], hi: &[i32])
     requires { ⌜ BoundsRoom (now d) (now lo) (now hi) ⌝ }
     ensures zone { λ _. ⌜ now (d .exit) ≡ laid (now (d .entry)) (boxOf (boundsOf (now (lo .entry)) (now (hi .entry)))) ⌝ }
     ensures words { λ _. ⌜ Words (now (lo .entry)) × Words (now (hi .entry)) ⌝ }
@@ -143,10 +145,10 @@ pub fn set_bounds(d: &mut [u64; zone::SIZE], lo: &[i32], hi: &[i32])
     zone::set_box(&mut *d, &low[..n], &high[..n]);
 }
 
-// Keeps the rows in which node a compares by op with node b and what is added to it; where there are none it says so, and leaves the zone as it
-// is. That is why both constraints of "equal" are looked at before the first is set.
-pub fn impose(d: &mut [u64; zone::SIZE], n: usize, op: u8, a: usize, b: usize, added: u64) -> bool
-    requires { ⌜ Imposes n (now d) a b added ⌝ }
+// Keeps the rows in which node a compares by op with node b and what is added to it; where there are none it says so, and leaves the zone
+// as it is. That is why both constraints of "equal" are looked at before the first is set.
+fn impose_nodes(d: &mut [u64], n: usize, op: u8, a: usize, b: usize, added: u64) -> bool
+    requires { ⌜ ImposesNodes n (now d) a b added ⌝ }
     ensures answer { λ r. ⌜ r ≡ isSome (imposedBy (zoneIn n (now (d .entry))) (between (opAt op) a b added)) ⌝ }
     ensures zone { λ _. ⌜ now (d .exit) ≡ laid (now (d .entry)) (kept (zoneIn n (now (d .entry))) (imposedBy (zoneIn n (now (d .entry))) (between (opAt op) a b added))) ⌝ }
 {
@@ -177,43 +179,38 @@ fn added_to(right: u8, number: i32) -> u64
 }
 
 // The ways in which a comparison fails; one of them holds where it doesn't.
-pub fn negations(op: u8, left: u8, right: u8, number: i32) -> Constraints
-    ensures { λ r. ⌜ r ≡ negationsOf (coded op left right number) ⌝ }
+pub fn negations(k: Comparison) -> Constraints
+    ensures { λ r. ⌜ r ≡ negationsOf (comparisonOf k) ⌝ }
 {
+    let right = k.right;
     against(
-        op,
-        base::wide(left) + 1,
+        k.op,
+        base::wide(k.left) + 1,
         base::wide(right),
-        added_to(right, number),
+        added_to(right, k.number),
     )
 }
 
 // Keeps the rows that meet a comparison; where there are none it says so, and leaves the zone as it is.
-pub fn impose_one(
-    d: &mut [u64; zone::SIZE],
-    columns: usize,
-    op: u8,
-    left: u8,
-    right: u8,
-    number: i32,
-) -> bool
-    requires { ⌜ ImposesOne columns (now d) op left right number ⌝ }
-    ensures answer { λ r. ⌜ r ≡ isSome (imposed (zoneIn (columns + 1) (now (d .entry))) (coded op left right number)) ⌝ }
-    ensures zone { λ _. ⌜ now (d .exit) ≡ laid (now (d .entry)) (kept (zoneIn (columns + 1) (now (d .entry))) (imposed (zoneIn (columns + 1) (now (d .entry))) (coded op left right number))) ⌝ }
+pub fn impose(d: &mut [u64], columns: usize, k: Comparison) -> bool
+    requires { ⌜ Imposes columns (now d) k ⌝ }
+    ensures answer { λ r. ⌜ r ≡ isSome (imposed (zoneIn (columns + 1) (now (d .entry))) (comparisonOf k)) ⌝ }
+    ensures zone { λ _. ⌜ now (d .exit) ≡ laid (now (d .entry)) (kept (zoneIn (columns + 1) (now (d .entry))) (imposed (zoneIn (columns + 1) (now (d .entry))) (comparisonOf k))) ⌝ }
 {
-    impose(
+    let right = k.right;
+    impose_nodes(
         &mut *d,
         columns + 1,
-        op,
-        base::wide(left) + 1,
+        k.op,
+        base::wide(k.left) + 1,
         base::wide(right),
-        added_to(right, number),
+        added_to(right, k.number),
     )
 }
 
 // Imposes a list of comparisons, one after the other, up to the first that leaves no row.
 pub fn impose_all(
-    d: &mut [u64; zone::SIZE],
+    d: &mut [u64],
     columns: usize,
     op: &[u8],
     left: &[u8],
@@ -226,7 +223,13 @@ pub fn impose_all(
 {
     let mut k = 0;
     while k < op.len() {
-        if !impose_one(&mut *d, columns, op[k], left[k], right[k], number[k]) {
+        let next = Comparison {
+            op: op[k],
+            left: left[k],
+            right: right[k],
+            number: number[k],
+        };
+        if !impose(&mut *d, columns, next) {
             return false;
         }
         k += 1;
@@ -235,7 +238,7 @@ pub fn impose_all(
 }
 
 // The least row of a zone whose values are of 32 bits.
-pub fn read_least(d: &[u64; zone::SIZE], row: &mut [i32])
+pub fn read_least(d: &[u64], row: &mut [i32])
     requires { ⌜ LeastRoom (now d) (now row) ⌝ }
     ensures { λ _. ⌜ now (row .exit) ≡ rowOf (leastOf (zoneIn (length (now (row .entry)) + 1) (now (d .entry)))) ⌝ }
 {
@@ -245,7 +248,8 @@ pub fn read_least(d: &[u64; zone::SIZE], row: &mut [i32])
     from_nodes(&x[..n], &mut *row);
 }
 
-// The row with the least value in every column among the rows within bounds that meet a list of comparisons, or none, with zeros in its place.
+// The row with the least value in every column among the rows within bounds that meet a list of comparisons, or none, with zeros in its
+// place.
 pub fn least_row(
     lo: &[i32],
     hi: &[i32],

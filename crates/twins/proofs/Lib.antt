@@ -4,6 +4,7 @@ pub mod Twins
 pub mod Renamed
 pub mod Names
 pub mod Twinned
-pub mod Within
 pub mod Separating
 pub mod Marking
+pub mod Differing
+pub mod Pairing

@@ -1,4 +1,4 @@
--- An expression whose columns are named anew in the record has its condition named anew. Assumes nothing.
+-- A condition whose columns are named anew in the record is named anew. Assumes nothing.
 use mathlib.Core.Path.{_≡_, refl, _∙_}
 use mathlib.Core.List.{List, [], _∷_, map, Memᴰ·of-map}
 use Prim.Native.Nat.{ℕ, zero, suc, _+_, _-_, _<_, _≤_}
@@ -12,16 +12,16 @@ use Rattle.base.specs.Lists.{allOf, at}
 use Rattle.base.proofs.Lists.{all-has}
 use Rattle.base.proofs.Arrays.{padded-each}
 use Rattle.model.specs.Tables as model
-use Rattle.model.specs.Tables.{Bounds, Against, column, number, Condition}
-use Rattle.model.specs.Coded.{sideOf, sideNumber}
+use Rattle.model.specs.Tables.{Bounds, Against, column, number}
+use Rattle.job.specs.Meaning.{sideOf, sideNumber}
 use Rattle.solver.specs.Solver.{againstFits, comparisonFits}
 use Rattle.job.specs.declared.Comparison.{Comparison}
 use Rattle.job.specs.declared.Clause.{Clause}
-use Rattle.job.specs.declared.Expression.{Expression}
+use Rattle.job.specs.declared.Condition.{Condition}
 use Rattle.job.specs.Record.{noComparison, noClause}
-use Rattle.job.specs.Meaning.{comparisonOf, clauseOf, expressionOf, comparisonRecord, clauseRecord, expressionRecord}
+use Rattle.job.specs.Meaning.{comparisonOf, clauseOf, conditionOf, comparisonRecord, clauseRecord, conditionRecord}
 use Rattle.twins.specs.Twins.{twinOf, renamedSide, renamedComparison, renamed}
-use Rattle.twins.specs.Records.{renamedRight, renamedOne, renamedClause, renamedExpression, twinsRecord}
+use Rattle.twins.specs.Records.{renamedRight, renamedOne, renamedClause, renamedCondition, twinsRecord}
 use Rattle.twins.specs.Uses.{Compares, ComparesAll}
 use Rattle.twins.proofs.Twinned.{twin-at}
 
@@ -43,9 +43,9 @@ module _ (twin : List ℕ) where
   clauses-renamed [] (suc n) = refl
   clauses-renamed (c ∷ cs) (suc n) = rw (comparisons-renamed (c .comparisons) (c .size), clauses-renamed cs n)
 
-  pub condition-renamed : (e : Expression) → expressionOf (renamedExpression twin e) .condition ≡ renamed (at twin) (expressionOf e .condition)
-  unfolding expressionOf renamedExpression renamed
-  condition-renamed e = clauses-renamed (e .clauses) (e .size)
+  pub condition-renamed : (k : Condition) → conditionOf (renamedCondition twin k) ≡ renamed (at twin) (conditionOf k)
+  unfolding renamedCondition renamed
+  condition-renamed k = clauses-renamed (k .clauses) (k .size)
 
 -- ---- the same names
 module _ (n : ℕ) (f g : ℕ → ℕ) (same : (c : ℕ) → c < n → f c ≡ g c) where
@@ -60,7 +60,7 @@ module _ (n : ℕ) (f g : ℕ → ℕ) (same : (c : ℕ) → c < n → f c ≡ g
       let (l, a) = and-yes (ltb (k .left) n) (againstFits n (k .right)) i in
       rw (same (k .left) (ltb→lt (k .left) n l), side-cong (k .right) a, clause-cong c t)
 
-  pub renamed-cong : (k : Condition) → T (allOf (allOf (comparisonFits n)) k) → renamed f k ≡ renamed g k
+  pub renamed-cong : (k : model.Condition) → T (allOf (allOf (comparisonFits n)) k) → renamed f k ≡ renamed g k
   unfolding renamed
   renamed-cong [] h = refl
   renamed-cong (c ∷ k) h =
@@ -68,11 +68,11 @@ module _ (n : ℕ) (f g : ℕ → ℕ) (same : (c : ℕ) → c < n → f c ≡ g
       rw (clause-cong c i, renamed-cong k t)
 
 -- ---- the second of two rows
-pub twins-renamed : (bs : List Bounds) (stored : List ℕ) (e : Expression) → T (allOf (allOf (comparisonFits (length bs))) (expressionOf e .condition))
-    → expressionOf (renamedExpression (twinsRecord bs stored .twin) e) .condition ≡ renamed (twinOf (length bs) stored) (expressionOf e .condition)
-twins-renamed bs stored e h =
-    condition-renamed (twinsRecord bs stored .twin) e
-    ∙ renamed-cong (length bs) (at (twinsRecord bs stored .twin)) (twinOf (length bs) stored) (twin-at bs stored) (expressionOf e .condition) h
+pub twins-renamed : (bs : List Bounds) (stored : List ℕ) (k : Condition) → T (allOf (allOf (comparisonFits (length bs))) (conditionOf k))
+    → conditionOf (renamedCondition (twinsRecord bs stored .twin) k) ≡ renamed (twinOf (length bs) stored) (conditionOf k)
+twins-renamed bs stored k h =
+    condition-renamed (twinsRecord bs stored .twin) k
+    ∙ renamed-cong (length bs) (at (twinsRecord bs stored .twin)) (twinOf (length bs) stored) (twin-at bs stored) (conditionOf k) h
 
 -- ---- a condition of columns that there can be
 module _ (n : ℕ) (few : n ≤ 16) where
@@ -89,13 +89,12 @@ module _ (n : ℕ) (few : n ≤ 16) where
       rw (← e) (record { left = omega (arith, ltb→lt (k .left) n b); right = side-compares (k .right) a }))
       i
 
-  pub compares : (e : model.Expression) → T (allOf (allOf (comparisonFits n)) (e .condition)) → (x : Expression) → x ≡ expressionRecord e
+  pub compares : (k : model.Condition) → T (allOf (allOf (comparisonFits n)) k) → (x : Condition) → x ≡ conditionRecord k
       → (q : ℕ) → q < 4 → ComparesAll (getD (x .clauses) q (record { size = 0; comparisons = [] }))
-  unfolding expressionRecord
-  compares e h x is q l =
+  compares k h x is q l =
       let none : ComparesAll (record { size = 0; comparisons = [] }) = λ i k. record { left = omega arith; right = omega arith } in
       rw is (padded-each ComparesAll noClause (record { size = 0; comparisons = [] }) (clause-compares [] tt) none
-      4 (map clauseRecord (e .condition)) (λ c m.
-      let (k, j, p) = Memᴰ·of-map clauseRecord (e .condition) m in
-      rw (← p) (clause-compares k (all-has (allOf (comparisonFits n)) j h)))
+      4 (map clauseRecord k) (λ c m.
+      let (a, j, p) = Memᴰ·of-map clauseRecord k m in
+      rw (← p) (clause-compares a (all-has (allOf (comparisonFits n)) j h)))
       q)

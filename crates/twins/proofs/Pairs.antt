@@ -17,10 +17,12 @@ use Rattle.model.specs.Rows.{someRow}
 use Rattle.zone.specs.Zone.{Zone, canDiffer}
 use Rattle.solver.specs.Solver.{boundsFit, comparisonFits, imposed, imposedAll}
 use Rattle.solver.proofs.Comparisons.{opposites-hold}
-use Rattle.twins.specs.Pairs.{pairsOf, columnsBy, apart, someApart, ifDiffer}
+use Rattle.conditions.specs.Meeting.{both, pairsOf}
+use Rattle.conditions.proofs.Both.{both-fit, pairs-sought}
+use Rattle.twins.specs.Pairs.{columnsBy, apart, someApart, ifDiffer}
 use Rattle.conditions.specs.Uses.{conditionFits}
 use Rattle.conditions.proofs.Stands.{Stands, Left, comparison-left, clause-left, differ-sought}
-use Rattle.conditions.proofs.Sought.{Sought, sought-as, sought-is, left-sought, either-sought, first-sought, clauses-sought}
+use Rattle.conditions.proofs.Sought.{Sought, sought-as, sought-is, left-sought, either-sought, first-sought}
 
 module _ (bs : List Bounds) (fit : T (allOf boundsFit bs)) where
   -- ---- two columns
@@ -71,19 +73,11 @@ module _ (bs : List Bounds) (fit : T (allOf boundsFit bs)) where
 
   -- ---- pairs of clauses
   module _ (p : Row → Bool) (z : Zone) (s : Stands bs p z) (k l : Condition) (fk : T (conditionFits (length bs) k)) (fl : T (conditionFits (length bs) l)) where
-    pub pairs-sought : (t : Row → Bool) (f : Zone → Option Zone) → ((q : Row → Bool) (y : Zone) → Stands bs q y → Sought bs q t (f y))
-        → Sought bs p (λ r. conditionHolds r k && (conditionHolds r l && t r)) (pairsOf z k l f)
-    unfolding pairsOf
-    pairs-sought t f next =
-        clauses-sought bs fit p z s k fk (λ r. conditionHolds r l && t r) (λ y. firstOf l (λ d. andThen (imposedAll y d) f)) (λ q y u.
-        clauses-sought bs fit q y u l fl t f next)
-
     pub pairs-some : (f g : Zone → Option Zone) → ((q : Row → Bool) (y : Zone) → Stands bs q y → isSome (f y) ≡ isSome (g y))
         → isSome (pairsOf z k l f) ≡ isSome (pairsOf z k l g)
     unfolding pairsOf
     pairs-some f g same =
-        clauses-some (λ y. firstOf l (λ d. andThen (imposedAll y d) f)) (λ y. firstOf l (λ d. andThen (imposedAll y d) g))
-        (λ q y u. clauses-some f g same q y u l fl) p z s k fk
+        clauses-some f g same p z s (both k l) (both-fit (length bs) k l fk fl)
 
     -- so one look in each pair of clauses tells whether two columns differ in some row that meets both conditions
     pub pairs-differ : (a b : ℕ) → a < length bs → b < length bs
@@ -92,4 +86,4 @@ module _ (bs : List Bounds) (fit : T (allOf boundsFit bs)) where
     pairs-differ a b ha hb =
         pairs-some (ifDiffer a b) (apart a b) (λ q y u. differ-apart q y u a b ha hb)
         ∙ sought-is bs p (λ r. conditionHolds r k && (conditionHolds r l && not (eqZ (value r a) (value r b)))) (pairsOf z k l (apart a b))
-        (pairs-sought (λ r. not (eqZ (value r a) (value r b))) (apart a b) (λ q y u. apart-sought q y u a b ha hb))
+        (pairs-sought bs fit p z s k l fk fl (λ r. not (eqZ (value r a) (value r b))) (apart a b) (λ q y u. apart-sought q y u a b ha hb))

@@ -22,7 +22,7 @@ use Rattle.twins.specs.declared.TwinRows.{TwinRows}
 use Rattle.twins.specs.Twins.{isStored, hidden, rank, twinOf, twinBounds}
 use Rattle.twins.proofs.Rows.{firstRow, secondRow}
 use Rattle.twins.specs.Records.{twinsOf, columnMore, twinMore, taken, twinsRecord}
-use Rattle.twins.specs.Uses.{TwinsRoom, Names, TwinsStand}
+use Rattle.twins.specs.Uses.{Names, TwinsStand}
 use Rattle.twins.proofs.Twins.{twin-stored, twin-hidden, twin-declared, twins-most}
 
 column-more : (bs : List Bounds) (ts : List ℕ) (k : Column) → length bs < 32
@@ -151,8 +151,8 @@ module _ (xs : List Column) (n : ℕ) (outs : List ℕ) where
     both-end c e is = is ∙ ap (till given outs) (e ∙ sym given-length) ∙ till-all given outs
 
     module _ (c : ℕ) (h : c < n) {t : TwinRows} (is : Both c t) where
-      pub both-room : TwinsRoom t c
-      both-room = record { columns = rw is (till-room given outs (omega (arith, given-length)) c (omega (arith, given-length))); place = omega arith }
+      pub both-room : t .columns < 32
+      both-room = rw is (till-room given outs (omega (arith, given-length)) c (omega (arith, given-length)))
 
       pub both-more : (d : Column) (b : Bool) → b ≡ anyOf (eqb c) outs → Both (c + 1) (taken t c (getD xs c d) b)
       both-more d b e =

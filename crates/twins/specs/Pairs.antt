@@ -1,18 +1,13 @@
--- The search over pairs of clauses, one of each of two conditions, and for rows in which two columns differ.
+-- Rows in which two columns differ.
 use mathlib.Core.Bool.{cond}
 use mathlib.Core.List.{List}
 use mathlib.Core.Option.{Option, none, some}
 use Prim.Native.Nat.{ℕ, suc}
 use Rattle.base.specs.Options.{orElse, firstOf}
 use Rattle.words.specs.Compare.{Op, less, more}
-use Rattle.model.specs.Tables.{column, Comparison, Condition}
+use Rattle.model.specs.Tables.{column, Comparison}
 use Rattle.zone.specs.Zone.{Zone, canDiffer}
 use Rattle.solver.specs.Solver.{imposed}
-use Rattle.conditions.specs.Meeting.{byClause}
-
--- what f gives for the rows of a zone that meet a clause of each condition, by the first pair of clauses for which it gives something
-unfoldable pub pairsOf : Zone → Condition → Condition → (Zone → Option Zone) → Option Zone
-pairsOf z k l f = byClause z k (λ y. byClause y l f)
 
 -- column a compared with column b
 abbrev pub columnsBy : Op → ℕ → ℕ → Comparison

@@ -11,7 +11,7 @@ use Rattle.model.specs.Tables.{Bounds}
 use Rattle.job.specs.declared.Column.{Column}
 use Rattle.job.specs.declared.Comparison.{Comparison}
 use Rattle.job.specs.declared.Clause.{Clause}
-use Rattle.job.specs.declared.Expression.{Expression}
+use Rattle.job.specs.declared.Condition.{Condition}
 use Rattle.twins.specs.declared.TwinRows.{TwinRows}
 use Rattle.twins.specs.Twins.{twinOf, twinBounds}
 
@@ -54,12 +54,5 @@ renamedOne twin k = record { op = k .op; left = at twin (k .left); right = renam
 abbrev pub renamedClause : List ℕ → Clause → Clause
 renamedClause twin c = record { size = c .size; comparisons = map (renamedOne twin) (c .comparisons) }
 
-unfoldable pub renamedExpression : List ℕ → Expression → Expression
-renamedExpression twin e = record {
-  tables = e .tables;
-  used = e .used;
-  width = e .width;
-  outputs = e .outputs;
-  size = e .size;
-  clauses = map (renamedClause twin) (e .clauses);
-}
+unfoldable pub renamedCondition : List ℕ → Condition → Condition
+renamedCondition twin k = record { size = k .size; clauses = map (renamedClause twin) (k .clauses) }

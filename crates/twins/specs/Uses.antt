@@ -2,32 +2,23 @@
 use mathlib.Core.Path.{_≡_}
 use mathlib.Core.Bool.{Bool}
 use mathlib.Core.List.{List, []}
-use Prim.Native.Nat.{ℕ, _+_, _<_, _≤_}
+use Prim.Native.Nat.{ℕ, _+_, _*_, _<_, _≤_}
 use lib.ListN.{length, getD}
 use lib.IntN.{pos}
-use lib.Dec.{T}
 use Rattle.base.specs.Lists.{at}
 use Rattle.job.specs.declared.Comparison.{Comparison}
 use Rattle.job.specs.declared.Clause.{Clause}
-use Rattle.job.specs.declared.Expression.{Expression}
-use Rattle.job.specs.declared.Job.{Job}
+use Rattle.job.specs.declared.Condition.{Condition}
+use Rattle.job.specs.declared.Columns.{Columns}
 use Rattle.zone.specs.Uses.{InArray}
-use Rattle.conditions.specs.declared.Choices.{Choices}
-use Rattle.conditions.specs.Records.{conditionOf}
-use Rattle.conditions.specs.Uses.{conditionFits, Small, ChoicesFit, Meeting}
-use Rattle.twins.specs.declared.TwinRows.{TwinRows}
+use Rattle.conditions.specs.Uses.{Searches}
 
 -- ---- Two rows as one
 
--- the counts of a job's columns and stored columns are no more than its arrays hold
-pub record FewColumns (r : Job) : Type 0 where
-  pub width : r .width ≤ 16
-  pub stored : r .extract .width ≤ 16
-
--- a place for the twin of column c, and room for one column more
-pub record TwinsRoom (t : TwinRows) (c : ℕ) : Type 0 where
-  pub columns : t .columns < 32
-  pub place : c < 16
+-- the counts of columns and stored columns are no more than arrays hold
+pub record FewColumns (k : Columns) (stored : ℕ) : Type 0 where
+  pub width : k .width ≤ 16
+  pub few : stored ≤ 16
 
 -- ---- New names for columns
 
@@ -51,8 +42,8 @@ pub record RenamesClause (c : Clause) (twin : List ℕ) : Type 0 where
   pub compares : ComparesAll c
   pub names : Names twin
 
-pub record Renames (e : Expression) (twin : List ℕ) : Type 0 where
-  pub compares : (q : ℕ) → q < 4 → ComparesAll (getD (e .clauses) q (record { size = 0; comparisons = [] }))
+pub record Renames (k : Condition) (twin : List ℕ) : Type 0 where
+  pub compares : (q : ℕ) → q < 4 → ComparesAll (getD (k .clauses) q (record { size = 0; comparisons = [] }))
   pub names : Names twin
 
 -- ---- Rows
@@ -76,9 +67,13 @@ pub record Twinned (n w : ℕ) (d twin : List ℕ) (marks : List Bool) : Type 0 
   pub paired : Paired n w twin
   pub sixteen : length marks ≡ 16
 
+-- columns that there can be
+abbrev pub Few : List ℕ → Type 0
+Few cs = (i : ℕ) → i < length cs → at cs i < 16
+
 -- columns of a row, each with its twin, among n
 pub record Partners (n : ℕ) (cs twin : List ℕ) : Type 0 where
-  pub small : (i : ℕ) → i < length cs → at cs i < 16
+  pub small : Few cs
   pub first-in : (i : ℕ) → i < length cs → at cs i < n
   pub second-in : (i : ℕ) → i < length cs → at twin (at cs i) < n
 
@@ -86,32 +81,14 @@ pub record Separates (n : ℕ) (d cs twin : List ℕ) : Type 0 where
   pub in-array : InArray (n + 1) d
   pub partners : Partners n cs twin
 
--- with a condition, or two, of comparisons of the n columns, and room for a zone
-pub record Differs (n : ℕ) (z : List ℕ) (p : Expression) (cs twin out : List ℕ) : Type 0 where
-  pub meeting : Meeting n z p out
+-- with two conditions, and room for a zone
+pub record Differs (n : ℕ) (z : List ℕ) (k l : Condition) (cs twin out : List ℕ) : Type 0 where
+  pub searches : Searches n z k l
   pub partners : Partners n cs twin
+  pub room : (n + 1) * 33 ≤ length out
 
-pub record DiffersTwice (n : ℕ) (z : List ℕ) (p k : Expression) (cs twin out : List ℕ) : Type 0 where
-  pub meeting : Meeting n z p out
-  pub partners : Partners n cs twin
-  pub small : Small k
-  pub fit : T (conditionFits n (conditionOf k))
-
-pub record Marks (n : ℕ) (z : List ℕ) (p : Expression) (w : ℕ) (twin : List ℕ) (marks : List Bool) : Type 0 where
-  pub in-array : InArray (n + 1) z
-  pub small : Small p
-  pub fit : T (conditionFits n (conditionOf p))
+pub record Marks (n : ℕ) (z : List ℕ) (k l : Condition) (w : ℕ) (twin y : List ℕ) (marks : List Bool) : Type 0 where
+  pub searches : Searches n z k l
   pub paired : Paired n w twin
+  pub room : (n + 1) * 33 ≤ length y
   pub sixteen : length marks ≡ 16
-
-pub record MarksTwice (n : ℕ) (z : List ℕ) (p k : Expression) (w : ℕ) (twin : List ℕ) (marks : List Bool) : Type 0 where
-  pub first : Marks n z p w twin marks
-  pub small : Small k
-  pub fit : T (conditionFits n (conditionOf k))
-
--- two conditions of comparisons of the n columns, choices between these, and room for a zone
-pub record SearchesIn (n : ℕ) (z : List ℕ) (e p : Expression) (k : Choices) (out : List ℕ) : Type 0 where
-  pub meeting : Meeting n z e out
-  pub small : Small p
-  pub fit : T (conditionFits n (conditionOf p))
-  pub choices : ChoicesFit (n + 1) k

@@ -1,34 +1,35 @@
-// Two rows that agree in the stored columns, as one row: its columns and bounds, conditions said of either row, and searches over such rows.
+// Two rows that agree in the stored columns, as one row: its columns and bounds, conditions said of either row, and searches over such
+// rows.
 ghost use mathlib.Core.Path.{_≡_};
+ghost use mathlib.Core.Bool.{false, _||_};
 ghost use mathlib.Core.List.{[], map};
-ghost use Prim.Native.Nat.{suc, _+_, _≤_, _<_};
-ghost use lib.ListN.{take};
+ghost use Prim.Native.Nat.{suc, _+_, _≤_};
+ghost use lib.ListN.{length, getD, take};
 ghost use lib.IntN.{pos};
-ghost use Rattle.base.specs.Lists.{at, tabulate};
+ghost use lib.Dec.{eqb};
+ghost use Rattle.base.specs.Lists.{allOf, at, range, tabulate};
 ghost use Rattle.base.specs.Options.{isSome};
 ghost use Rattle.base.specs.Arrays.{padded};
 ghost use Rattle.model.specs.Tables.{value};
-ghost use Rattle.job.specs.Meaning.{boundsOf};
+ghost use Rattle.job.specs.Meaning.{boundsOf, conditionOf};
 ghost use Rattle.zone.specs.Zone.{canDiffer};
 ghost use Rattle.zone.specs.Array.{zoneIn};
-ghost use Rattle.search.specs.Search.{outside};
-ghost use Rattle.conditions.specs.Meeting.{byClause};
-ghost use Rattle.twins.specs.Pairs.{someApart, ifDiffer, pairsOf};
-ghost use Rattle.conditions.specs.Records.{choicesIn, conditionOf, laidIf};
-ghost use Rattle.twins.specs.Records.{twinsOf, columnMore, taken, twinsRecord, renamedOne, renamedClause, renamedExpression};
+ghost use Rattle.conditions.specs.Meeting.{pairsOf, Lies};
+ghost use Rattle.twins.specs.Pairs.{someApart, ifDiffer};
+ghost use Rattle.twins.specs.Records.{twinsOf, twinsRecord, renamedOne, renamedClause, renamedCondition};
 ghost use Rattle.twins.specs.Marks.{marked};
-ghost use Rattle.twins.specs.Uses.{FewColumns, TwinsRoom, RenamesOne, RenamesClause, Renames, TwinsStand, Twinned, Separates, Differs, DiffersTwice, Marks, MarksTwice, SearchesIn};
-use conditions::Choices;
+ghost use Rattle.twins.specs.Uses.{Few, FewColumns, RenamesOne, RenamesClause, Renames, TwinsStand, Twinned, Separates, Differs, Marks};
 use job::Clause;
-use job::Column;
+use job::Columns;
 use job::Comparison;
-use job::Expression;
+use job::Condition;
 use job::Job;
 
 // At most so many columns in two rows as one.
 pub const COLUMNS: usize = 32;
 
-// Two rows that agree in the stored columns, as one row: how many columns it has, where the second row's value of each column stands, and its bounds.
+// Two rows that agree in the stored columns, as one row: how many columns it has, where the second row's value of each column stands, and
+// its bounds.
 pub struct TwinRows {
     pub columns: usize,
     pub twin: [u8; Job::COLUMNS],
@@ -49,66 +50,50 @@ fn no_twins() -> TwinRows
     }
 }
 
-fn with_column(t: TwinRows, k: Column) -> TwinRows
-    requires { ⌜ t .columns < 32 ⌝ }
-    ensures { λ r. ⌜ r ≡ columnMore t k ⌝ }
-{
-    let n = t.columns;
-    let lo = k.lo;
-    let hi = k.hi;
-    let mut u = t;
-    u.lo[n] = lo;
-    u.hi[n] = hi;
-    u.columns = n + 1;
-    u
-}
-
-// Column c of the second row: where it isn't stored, it is one column more.
-fn take_column(t: TwinRows, c: usize, k: Column, stored: bool) -> TwinRows
-    requires { ⌜ TwinsRoom t c ⌝ }
-    ensures { λ r. ⌜ r ≡ taken t c k stored ⌝ }
-{
-    let n = t.columns;
-    let mut u = t;
-    if stored {
-        u.twin[c] = c as u8;
-        return u;
-    }
-    u.twin[c] = n as u8;
-    with_column(u, k)
-}
-
 // The columns of the first row.
-fn first_columns(job: Job) -> TwinRows
-    requires { ⌜ job .width ≤ 16 ⌝ }
-    ensures { λ r. ⌜ r ≡ twinsOf (map boundsOf (take (job .width) (job .columns))) [] ⌝ }
+fn first_columns(k: Columns) -> TwinRows
+    requires { ⌜ k .width ≤ 16 ⌝ }
+    ensures { λ r. ⌜ r ≡ twinsOf (map boundsOf (take (k .width) (k .columns))) [] ⌝ }
 {
-    let n = job.width;
-    let given = job.columns;
+    let n = k.width;
+    let given = k.columns;
     let mut t = no_twins();
     let mut c = 0;
     while c < n {
-        t = with_column(t, given[c]);
+        let column = given[c];
+        let lo = column.lo;
+        let hi = column.hi;
+        let m = t.columns;
+        t.lo[m] = lo;
+        t.hi[m] = hi;
+        t.columns = m + 1;
         c += 1;
     }
     t
 }
 
-// Two rows of a job that agree in the columns that the extract stores.
-pub fn twins_of(job: Job) -> TwinRows
-    requires { ⌜ FewColumns job ⌝ }
-    ensures { λ r. ⌜ r ≡ twinsRecord (map boundsOf (take (job .width) (job .columns))) (take (job .extract .width) (job .extract .outputs)) ⌝ }
+// Two rows that agree in the first `stored` of the outputs. Where a column isn't stored, the second row has one column more.
+pub fn twins_of(k: Columns, outputs: [u8; Job::COLUMNS], stored: usize) -> TwinRows
+    requires { ⌜ FewColumns k stored ⌝ }
+    ensures { λ r. ⌜ r ≡ twinsRecord (map boundsOf (take (k .width) (k .columns))) (take stored outputs) ⌝ }
 {
-    let n = job.width;
-    let given = job.columns;
-    let extract = job.extract;
-    let m = extract.width;
-    let outputs = extract.outputs;
-    let mut t = first_columns(job);
+    let n = k.width;
+    let given = k.columns;
+    let mut t = first_columns(k);
     let mut c = 0;
     while c < n {
-        let stored = base::is_among(&outputs, m, c as u8);
-        t = take_column(t, c, given[c], stored);
+        if base::is_among(&outputs, stored, c as u8) {
+            t.twin[c] = c as u8;
+        } else {
+            let column = given[c];
+            let lo = column.lo;
+            let hi = column.hi;
+            let m = t.columns;
+            t.twin[c] = m as u8;
+            t.lo[m] = lo;
+            t.hi[m] = hi;
+            t.columns = m + 1;
+        }
         c += 1;
     }
     t
@@ -177,41 +162,53 @@ fn rename_clause(c: Clause, twin: [u8; Job::COLUMNS]) -> Clause
     }
 }
 
-// An expression with its condition said of the second of two rows.
-pub fn rename(e: Expression, twin: [u8; Job::COLUMNS]) -> Expression
-    requires { ⌜ Renames e twin ⌝ }
-    ensures { λ r. ⌜ r ≡ renamedExpression twin e ⌝ }
+// A condition said of the second of two rows.
+pub fn rename(k: Condition, twin: [u8; Job::COLUMNS]) -> Condition
+    requires { ⌜ Renames k twin ⌝ }
+    ensures { λ r. ⌜ r ≡ renamedCondition twin k ⌝ }
 {
-    let given = e.clauses;
+    let given = k.clauses;
     let mut clauses = given;
     let mut q = 0;
     while q < Job::CLAUSES {
         clauses[q] = rename_clause(given[q], twin);
         q += 1;
     }
-    Expression {
+    Condition {
+        size: k.size,
         clauses: clauses,
-        ..e
     }
 }
 
 // ---- Rows with different values in a column and its twin
 
-// Keeps the rows in which some column of the list has another value than its twin; where there are none it says so, and leaves the zone as it is.
-fn separate(d: &mut [u64; zone::SIZE], columns: usize, cs: &[u8], twin: [u8; Job::COLUMNS]) -> bool
+// Keeps the rows in which some column of the list has another value than its twin; where there are none it says so.
+fn separate(d: &mut [u64], columns: usize, cs: &[u8], twin: [u8; Job::COLUMNS]) -> bool
     requires { ⌜ Separates columns (now d) (now cs) twin ⌝ }
     ensures answer { λ r. ⌜ r ≡ isSome (someApart (at twin) (now (cs .entry)) (zoneIn (columns + 1) (now (d .entry)))) ⌝ }
-    ensures zone { λ _. ⌜ now (d .exit) ≡ laidIf (now (d .entry)) (someApart (at twin) (now (cs .entry)) (zoneIn (columns + 1) (now (d .entry)))) ⌝ }
+    ensures zone { λ _. ⌜ Lies (columns + 1) (someApart (at twin) (now (cs .entry)) (zoneIn (columns + 1) (now (d .entry)))) (now (d .exit)) ⌝ }
 {
     let twins = twin;
     let mut i = 0;
     while i < cs.len() {
-        let c = cs[i];
-        let other = twins[base::wide(c)] + 1;
-        if solver::impose_one(&mut *d, columns, solver::LESS, c, other, 0) {
+        let left = cs[i];
+        let right = twins[base::wide(left)] + 1;
+        let less = Comparison {
+            op: solver::LESS,
+            left,
+            right,
+            number: 0,
+        };
+        if solver::impose(&mut *d, columns, less) {
             return true;
         }
-        if solver::impose_one(&mut *d, columns, solver::MORE, c, other, 0) {
+        let more = Comparison {
+            op: solver::MORE,
+            left,
+            right,
+            number: 0,
+        };
+        if solver::impose(&mut *d, columns, more) {
             return true;
         }
         i += 1;
@@ -219,58 +216,54 @@ fn separate(d: &mut [u64; zone::SIZE], columns: usize, cs: &[u8], twin: [u8; Job
     false
 }
 
-// Some rows of a zone that meet the condition and are separated so, or none.
-fn differ_in(
-    z: &[u64; zone::SIZE],
-    columns: usize,
-    p: Expression,
-    cs: &[u8],
-    twin: [u8; Job::COLUMNS],
-    out: &mut [u64; zone::SIZE],
-) -> bool
-    requires { ⌜ Differs columns (now z) p (now cs) twin (now out) ⌝ }
-    ensures answer { λ r. ⌜ r ≡ isSome (byClause (zoneIn (columns + 1) (now (z .entry))) (conditionOf p) (someApart (at twin) (now (cs .entry)))) ⌝ }
-    ensures zone { λ _. ⌜ now (out .exit) ≡ laidIf (now (out .entry)) (byClause (zoneIn (columns + 1) (now (z .entry))) (conditionOf p) (someApart (at twin) (now (cs .entry)))) ⌝ }
+// Whether each column of the list is its own twin, and so can't differ from it.
+fn all_shared(cs: &[u8], twin: [u8; Job::COLUMNS]) -> bool
+    requires { ⌜ Few (now cs) ⌝ }
+    ensures { λ r. ⌜ r ≡ allOf (λ c. eqb (at twin c) c) (now (cs .entry)) ⌝ }
 {
-    let size = p.size;
-    let clauses = p.clauses;
-    let mut y = [0u64; zone::SIZE];
-    let mut q = 0;
-    while q < size {
-        if conditions::meet(z, columns, clauses[q], &mut y) {
-            if separate(&mut y, columns, cs, twin) {
-                zone::copy(&y, &mut *out, columns + 1);
-                return true;
-            }
+    let twins = twin;
+    let mut i = 0;
+    while i < cs.len() {
+        let c = cs[i];
+        if twins[base::wide(c)] != c {
+            return false;
         }
-        q += 1;
+        i += 1;
     }
-    false
+    true
 }
 
 // Some rows of a zone that meet both conditions and are separated so, or none.
-pub fn differ_in_both(
-    z: &[u64; zone::SIZE],
+pub fn differ(
+    z: &[u64],
     columns: usize,
-    p: Expression,
-    k: Expression,
+    k: Condition,
+    l: Condition,
     cs: &[u8],
     twin: [u8; Job::COLUMNS],
-    out: &mut [u64; zone::SIZE],
+    out: &mut [u64],
 ) -> bool
-    requires { ⌜ DiffersTwice columns (now z) p k (now cs) twin (now out) ⌝ }
-    ensures answer { λ r. ⌜ r ≡ isSome (pairsOf (zoneIn (columns + 1) (now (z .entry))) (conditionOf p) (conditionOf k) (someApart (at twin) (now (cs .entry)))) ⌝ }
-    ensures zone { λ _. ⌜ now (out .exit) ≡ laidIf (now (out .entry)) (pairsOf (zoneIn (columns + 1) (now (z .entry))) (conditionOf p) (conditionOf k) (someApart (at twin) (now (cs .entry)))) ⌝ }
+    requires { ⌜ Differs columns (now z) k l (now cs) twin (now out) ⌝ }
+    ensures answer { λ r. ⌜ r ≡ isSome (pairsOf (zoneIn (columns + 1) (now (z .entry))) (conditionOf k) (conditionOf l) (someApart (at twin) (now (cs .entry)))) ⌝ }
+    ensures zone { λ _. ⌜ Lies (columns + 1) (pairsOf (zoneIn (columns + 1) (now (z .entry))) (conditionOf k) (conditionOf l) (someApart (at twin) (now (cs .entry)))) (now (out .exit)) ⌝ }
 {
-    let size = p.size;
-    let clauses = p.clauses;
-    let mut y = [0u64; zone::SIZE];
+    if all_shared(cs, twin) {
+        return false;
+    }
+    let size = k.size;
+    let first = k.clauses;
+    let others = l.size;
+    let second = l.clauses;
     let mut q = 0;
     while q < size {
-        if conditions::meet(z, columns, clauses[q], &mut y) {
-            if differ_in(&y, columns, k, cs, twin, &mut *out) {
-                return true;
+        let mut r = 0;
+        'second: while r < others {
+            if conditions::lay_pair(z, columns, first[q], second[r], &mut *out) {
+                if separate(&mut *out, columns, cs, twin) {
+                    return true;
+                }
             }
+            r += 1;
         }
         q += 1;
     }
@@ -278,13 +271,7 @@ pub fn differ_in_both(
 }
 
 // Marks the columns whose values can differ from their twins'.
-fn mark(
-    d: &[u64; zone::SIZE],
-    columns: usize,
-    width: usize,
-    twin: [u8; Job::COLUMNS],
-    marks: &mut [bool],
-)
+fn mark(d: &[u64], columns: usize, width: usize, twin: [u8; Job::COLUMNS], marks: &mut [bool])
     requires { ⌜ Twinned columns width (now d) twin (now marks) ⌝ }
     ensures { λ _. ⌜ now (marks .exit) ≡ marked width (λ c. canDiffer (zoneIn (columns + 1) (now (d .entry))) (suc c) (suc (at twin c))) (now (marks .entry)) ⌝ }
 {
@@ -297,81 +284,54 @@ fn mark(
     }
 }
 
-// Marks the columns whose values can differ so in the rows that meet the condition.
-fn mark_in(
-    z: &[u64; zone::SIZE],
-    columns: usize,
-    p: Expression,
-    width: usize,
-    twin: [u8; Job::COLUMNS],
-    marks: &mut [bool],
-)
-    requires { ⌜ Marks columns (now z) p width twin (now marks) ⌝ }
-    ensures { λ _. ⌜ now (marks .exit) ≡ marked width (λ c. isSome (byClause (zoneIn (columns + 1) (now (z .entry))) (conditionOf p) (ifDiffer c (at twin c)))) (now (marks .entry)) ⌝ }
+// Whether each of the first columns is marked, or is its own twin: then no more can be marked.
+fn all_marked(marks: &[bool], width: usize, twin: [u8; Job::COLUMNS]) -> bool
+    requires { ⌜ (width ≤ 16) × (length (now marks) ≡ 16) ⌝ }
+    ensures { λ r. ⌜ r ≡ allOf (λ c. getD (now (marks .entry)) c false || eqb (at twin c) c) (range width) ⌝ }
 {
-    let size = p.size;
-    let clauses = p.clauses;
-    let mut y = [0u64; zone::SIZE];
-    let mut q = 0;
-    while q < size {
-        if conditions::meet(z, columns, clauses[q], &mut y) {
-            mark(&y, columns, width, twin, &mut *marks);
-        }
-        q += 1;
-    }
-}
-
-// Marks the columns whose values can differ so in the rows that meet both conditions.
-pub fn mark_in_both(
-    z: &[u64; zone::SIZE],
-    columns: usize,
-    p: Expression,
-    k: Expression,
-    width: usize,
-    twin: [u8; Job::COLUMNS],
-    marks: &mut [bool],
-)
-    requires { ⌜ MarksTwice columns (now z) p k width twin (now marks) ⌝ }
-    ensures { λ _. ⌜ now (marks .exit) ≡ marked width (λ c. isSome (pairsOf (zoneIn (columns + 1) (now (z .entry))) (conditionOf p) (conditionOf k) (ifDiffer c (at twin c)))) (now (marks .entry)) ⌝ }
-{
-    let size = p.size;
-    let clauses = p.clauses;
-    let mut y = [0u64; zone::SIZE];
-    let mut q = 0;
-    while q < size {
-        if conditions::meet(z, columns, clauses[q], &mut y) {
-            mark_in(&y, columns, k, width, twin, &mut *marks);
-        }
-        q += 1;
-    }
-}
-
-// ---- Rows of which the first meets a condition and the second doesn't
-
-// Some rows of a zone that meet both conditions and break every clause of another, or none.
-pub fn outside_in(
-    z: &[u64; zone::SIZE],
-    columns: usize,
-    e: Expression,
-    p: Expression,
-    k: Choices,
-    out: &mut [u64; zone::SIZE],
-) -> bool
-    requires { ⌜ SearchesIn columns (now z) e p k (now out) ⌝ }
-    ensures answer { λ r. ⌜ r ≡ isSome (byClause (zoneIn (columns + 1) (now (z .entry))) (conditionOf e) (λ y. outside y (conditionOf p) (choicesIn k))) ⌝ }
-    ensures zone { λ _. ⌜ now (out .exit) ≡ laidIf (now (out .entry)) (byClause (zoneIn (columns + 1) (now (z .entry))) (conditionOf e) (λ y. outside y (conditionOf p) (choicesIn k))) ⌝ }
-{
-    let size = e.size;
-    let clauses = e.clauses;
-    let mut y = [0u64; zone::SIZE];
-    let mut q = 0;
-    while q < size {
-        if conditions::meet(z, columns, clauses[q], &mut y) {
-            if search::outside(&y, columns, p, k, &mut *out) {
-                return true;
+    let twins = twin;
+    let mut c = 0;
+    while c < width {
+        if !marks[c] {
+            if base::wide(twins[c]) != c {
+                return false;
             }
         }
+        c += 1;
+    }
+    true
+}
+
+// Marks the columns whose values can differ so in the rows that meet both conditions. The rows of each pair of clauses are laid into y.
+pub fn mark_pairs(
+    z: &[u64],
+    columns: usize,
+    k: Condition,
+    l: Condition,
+    width: usize,
+    twin: [u8; Job::COLUMNS],
+    y: &mut [u64],
+    marks: &mut [bool],
+)
+    requires { ⌜ Marks columns (now z) k l width twin (now y) (now marks) ⌝ }
+    ensures { λ _. ⌜ now (marks .exit) ≡ marked width (λ c. isSome (pairsOf (zoneIn (columns + 1) (now (z .entry))) (conditionOf k) (conditionOf l) (ifDiffer c (at twin c)))) (now (marks .entry)) ⌝ }
+{
+    let size = k.size;
+    let first = k.clauses;
+    let others = l.size;
+    let second = l.clauses;
+    let mut q = 0;
+    while q < size {
+        let mut r = 0;
+        'second: while r < others {
+            if all_marked(&*marks, width, twin) {
+                return;
+            }
+            if conditions::lay_pair(z, columns, first[q], second[r], &mut *y) {
+                mark(&*y, columns, width, twin, &mut *marks);
+            }
+            r += 1;
+        }
         q += 1;
     }
-    false
 }

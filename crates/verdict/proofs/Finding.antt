@@ -1,118 +1,115 @@
 -- The kind and the finding, by one search after the other until one finds something. Assumes nothing.
 use mathlib.Core.Path.{_≡_, refl, sym, ap, _∙_}
-use mathlib.Core.Bool.{Bool, true, false, cond, false≢true, _&&_}
+use mathlib.Core.Bool.{Bool, true, false, cond, _&&_}
 use mathlib.Core.List.{List}
 use mathlib.Core.Option.{Option, none, some}
 use Prim.Native.Nat.{ℕ}
 use native.Mathlib.Omega.{arith}
 use Rattle.base.specs.Options.{isSome, orElse}
-use Rattle.model.specs.Tables.{Job}
-use Rattle.model.specs.Verdict.{tablesDiffer, firstKind}
+use Rattle.base.proofs.Options.{none-of}
+use Rattle.model.specs.Tables.{Condition}
+use Rattle.model.specs.Verdict.{firstKind}
 use Rattle.zone.specs.Zone.{Zone}
-use Rattle.conditions.specs.Records.{laidIf}
-use Rattle.conditions.proofs.Found.{Ends}
-use Rattle.verdict.specs.Found.{found1, found2, found3, found4, oneKind, oneFound, twoKind, twoFound, foundKind, finding}
+use Rattle.zone.specs.Array.{zoneIn}
+use Rattle.conditions.specs.Meeting.{met, pairsOf, always, Lies}
+use Rattle.conditions.proofs.Meeting.{some-of, Ends, ends-none, ends-some}
+use Rattle.verdict.specs.Found.{without, oneKind, oneFound, twoKind, twoFound}
 
-found-first : (a b : Option Zone) → isSome a ≡ true → orElse a b ≡ a
-found-first none b e = absurd (false≢true e)
-found-first (some y) b e = refl
+-- what a search that found something tells: the zone lies in e
+there : (n : ℕ) {o : Option Zone} {r : Bool} (e : List ℕ) → Ends n o r e → r ≡ true → o ≡ some (zoneIn n e)
+there n {o} e ends some-row = let (y, is) = some-of o (ends .0) some-row in is ∙ ap some (sym (ends .1 y is))
 
-found-none : (a : Option Zone) → isSome a ≡ false → a ≡ none
-found-none none e = refl
-found-none (some y) e = absurd (false≢true (sym e))
+-- a kind, and the zone that shows it
+abbrev pub Shows : ℕ → ℕ → ℕ → Option Zone → List ℕ → Type 0
+Shows n r k o e = (r ≡ k) × Lies n o e
 
-not-tried : (d : Bool) (a : Option Zone) → (d && isSome a) ≡ false → cond d a none ≡ none
-not-tried true a e = found-none a e
-not-tried false a e = refl
+lies-some : (n : ℕ) {o : Option Zone} (e : List ℕ) → o ≡ some (zoneIn n e) → Lies n o e
+lies-some n e is = ends-some n e is .1
 
--- ---- as the code goes: r is what a search answers, e what it leaves in place of `old`
-module _ (j : Job) where
-  pub passes-0 : tablesDiffer j ≡ false → (tablesDiffer j && isSome (found1 j)) ≡ false
-  passes-0 d = rw d
+-- ---- among the rows of a zone
 
-  module _ (old : List ℕ) {r : Bool} {e : List ℕ} where
-    -- kinds 1 and 2
-    pub shows-1 : tablesDiffer j ≡ true → Ends (found1 j) old r e → r ≡ true → (1 ≡ oneKind j) × (e ≡ laidIf old (oneFound j))
+-- the first search found nothing, or wasn't made
+abbrev pub Passed : Zone → Bool → Condition → Type 0
+Passed z differ wants = cond differ (met z wants) none ≡ none
+
+pub passes : (z : Zone) (differ : Bool) (wants : Condition) → (differ ≡ true → met z wants ≡ none) → Passed z differ wants
+passes z true wants h = h refl
+passes z false wants h = refl
+
+not-first : (d : Bool) (o : Option Zone) → cond d o none ≡ none → (d && isSome o) ≡ false
+not-first true o is = ap isSome is
+not-first false o is = refl
+
+-- r and e are what the last search answers and leaves
+module _ (n : ℕ) (z : Zone) (differ : Bool) (keeps wants : Condition) {r : Bool} (e : List ℕ) where
+  pub shows-1 : differ ≡ true → Ends n (met z wants) r e → r ≡ true → Shows n 1 (oneKind z differ keeps wants) (oneFound z differ keeps wants) e
+  unfolding oneKind oneFound
+  shows-1 d ends some-row =
+      let is = there n e ends some-row in
+      (rw (d, is), lies-some n e (rw (d, is)))
+
+  module _ (passed : Passed z differ wants) (ends : Ends n (without z always wants keeps) r e) where
+    pub shows-2 : r ≡ true → Shows n 2 (oneKind z differ keeps wants) (oneFound z differ keeps wants) e
     unfolding oneKind oneFound
-    shows-1 d (told, left) t =
-        let a : isSome (found1 j) ≡ true = sym told ∙ t in
-        let same : oneFound j ≡ found1 j = rw d (found-first (found1 j) (found2 j) a) in
-        (rw (d, a), left ∙ ap (laidIf old) (sym same))
+    shows-2 some-row =
+        let is = there n e ends some-row in
+        (rw (not-first differ (met z wants) passed, is), lies-some n e (rw (passed, is)))
 
-    pub passes-1 : tablesDiffer j ≡ true → Ends (found1 j) old r e → r ≡ false → ((tablesDiffer j && isSome (found1 j)) ≡ false) × (e ≡ old)
-    passes-1 d (told, left) t =
-        let a : isSome (found1 j) ≡ false = sym told ∙ t in
-        (rw (d, a), left ∙ ap (laidIf old) (found-none (found1 j) a))
+    pub shows-neither : r ≡ false → Shows n 0 (oneKind z differ keeps wants) (oneFound z differ keeps wants) e
+    unfolding oneKind oneFound
+    shows-neither no-row =
+        let is = none-of (without z always wants keeps) (ends .0) no-row in
+        let nothing : oneFound z differ keeps wants ≡ none = rw (passed, is) in
+        (rw (not-first differ (met z wants) passed, is), ends-none n e nothing .1)
 
-    module _ (not1 : (tablesDiffer j && isSome (found1 j)) ≡ false) (ends : Ends (found2 j) old r e) where
-      pub shows-2 : r ≡ true → (2 ≡ oneKind j) × (e ≡ laidIf old (oneFound j))
-      unfolding oneKind oneFound
-      shows-2 t =
-          let b : isSome (found2 j) ≡ true = sym (ends .0) ∙ t in
-          let same : oneFound j ≡ found2 j = rw (not-tried (tablesDiffer j) (found1 j) not1) in
-          (rw (not1, b), ends .1 ∙ ap (laidIf old) (sym same))
+module _ (n : ℕ) (z : Zone) (keeps wants others : Condition) (apart : Zone → Option Zone) {r : Bool} (e : List ℕ) where
+  pub shows-3 : Ends n (without z keeps wants others) r e → r ≡ true
+      → Shows n 3 (twoKind z keeps wants others apart) (twoFound z keeps wants others apart) e
+  unfolding twoKind twoFound
+  shows-3 ends some-row =
+      let is = there n e ends some-row in
+      (rw is, lies-some n e (rw is))
 
-      pub shows-neither : r ≡ false → (0 ≡ oneKind j) × (e ≡ laidIf old (oneFound j))
-      unfolding oneKind oneFound
-      shows-neither t =
-          let b : isSome (found2 j) ≡ false = sym (ends .0) ∙ t in
-          let same : oneFound j ≡ found2 j = rw (not-tried (tablesDiffer j) (found1 j) not1) in
-          (rw (not1, b), ends .1 ∙ ap (laidIf old) (sym same))
-
-    -- kinds 3 and 4
-    pub shows-3 : Ends (found3 j) old r e → r ≡ true → (3 ≡ twoKind j) × (e ≡ laidIf old (twoFound j))
+  module _ (passed : without z keeps wants others ≡ none) (ends : Ends n (pairsOf z wants others apart) r e) where
+    pub shows-4 : r ≡ true → Shows n 4 (twoKind z keeps wants others apart) (twoFound z keeps wants others apart) e
     unfolding twoKind twoFound
-    shows-3 (told, left) t =
-        let a : isSome (found3 j) ≡ true = sym told ∙ t in
-        (rw a, left ∙ ap (laidIf old) (sym (found-first (found3 j) (found4 j) a)))
+    shows-4 some-row =
+        let is = there n e ends some-row in
+        (rw (passed, is), lies-some n e (rw (passed, is)))
 
-    pub passes-3 : Ends (found3 j) old r e → r ≡ false → (found3 j ≡ none) × (e ≡ old)
-    passes-3 (told, left) t =
-        let a = found-none (found3 j) (sym told ∙ t) in
-        (a, left ∙ ap (laidIf old) a)
+    pub shows-none : r ≡ false → Shows n 0 (twoKind z keeps wants others apart) (twoFound z keeps wants others apart) e
+    unfolding twoKind twoFound
+    shows-none no-row =
+        let is = none-of (pairsOf z wants others apart) (ends .0) no-row in
+        let nothing : twoFound z keeps wants others apart ≡ none = rw (passed, is) in
+        (rw (passed, is), ends-none n e nothing .1)
 
-    module _ (not3 : found3 j ≡ none) (ends : Ends (found4 j) old r e) where
-      pub shows-4 : r ≡ true → (4 ≡ twoKind j) × (e ≡ laidIf old (twoFound j))
-      unfolding twoKind twoFound
-      shows-4 t =
-          let b : isSome (found4 j) ≡ true = sym (ends .0) ∙ t in
-          let same : twoFound j ≡ found4 j = rw not3 in
-          (rw (not3, b), ends .1 ∙ ap (laidIf old) (sym same))
-
-      pub shows-none : r ≡ false → (0 ≡ twoKind j) × (e ≡ laidIf old (twoFound j))
-      unfolding twoKind twoFound
-      shows-none t =
-          let b : isSome (found4 j) ≡ false = sym (ends .0) ∙ t in
-          let same : twoFound j ≡ found4 j = rw not3 in
-          (rw (not3, b), ends .1 ∙ ap (laidIf old) (sym same))
-
-  -- ---- both
-  one-zero : oneKind j ≡ 0 → ((tablesDiffer j && isSome (found1 j)) ≡ false) × (isSome (found2 j) ≡ false)
-  unfolding oneKind
-  one-zero = go (tablesDiffer j && isSome (found1 j)) (isSome (found2 j))
+-- ---- of a job: the second search comes where the first found nothing
+module _ (a b c : Option Zone) (d : Bool) (o : Option Zone) where
+  pub finds-first : ¬ (firstKind (d && isSome o) (isSome a) false false ≡ 0)
+      → (firstKind (d && isSome o) (isSome a) false false ≡ firstKind (d && isSome o) (isSome a) (isSome b) (isSome c))
+      × (orElse (cond d o none) a ≡ orElse (cond d o none) (orElse a (orElse b c)))
+  finds-first = go d o a
     where
-      go : (a b : Bool) → firstKind a b false false ≡ 0 → (a ≡ false) × (b ≡ false)
-      go true b e = absurd (omega arith)
-      go false true e = absurd (omega arith)
-      go false false e = (refl, refl)
-
-  pub finds-first : ¬ (oneKind j ≡ 0) → (oneKind j ≡ foundKind j) × (oneFound j ≡ finding j)
-  unfolding oneKind oneFound foundKind finding
-  finds-first = go (tablesDiffer j) (found1 j) (found2 j)
-    where
-      go : (d : Bool) (a b : Option Zone) → ¬ (firstKind (d && isSome a) (isSome b) false false ≡ 0)
-          → (firstKind (d && isSome a) (isSome b) false false ≡ firstKind (d && isSome a) (isSome b) (isSome (found3 j)) (isSome (found4 j)))
-          × (orElse (cond d a none) b ≡ orElse (cond d a none) (orElse b (orElse (found3 j) (found4 j))))
+      go : (d : Bool) (o a : Option Zone) → ¬ (firstKind (d && isSome o) (isSome a) false false ≡ 0)
+          → (firstKind (d && isSome o) (isSome a) false false ≡ firstKind (d && isSome o) (isSome a) (isSome b) (isSome c))
+          × (orElse (cond d o none) a ≡ orElse (cond d o none) (orElse a (orElse b c)))
       go true none none n = absurd (n refl)
       go true none (some y) n = (refl, refl)
-      go true (some x) b n = (refl, refl)
-      go false a none n = absurd (n refl)
-      go false a (some y) n = (refl, refl)
+      go true (some x) a n = (refl, refl)
+      go false o none n = absurd (n refl)
+      go false o (some y) n = (refl, refl)
 
-  pub finds-second : oneKind j ≡ 0 → (twoKind j ≡ foundKind j) × (twoFound j ≡ finding j) × (oneFound j ≡ none)
-  unfolding oneFound twoKind twoFound foundKind finding
-  finds-second e =
-      let (not1, not2) = one-zero e in
-      let tried = not-tried (tablesDiffer j) (found1 j) not1 in
-      let other = found-none (found2 j) not2 in
-      (rw (not1, not2), rw (tried, other), rw (tried, other))
+  pub finds-second : firstKind (d && isSome o) (isSome a) false false ≡ 0
+      → (firstKind false false (isSome b) (isSome c) ≡ firstKind (d && isSome o) (isSome a) (isSome b) (isSome c))
+      × (orElse b c ≡ orElse (cond d o none) (orElse a (orElse b c)))
+  finds-second = go d o a
+    where
+      go : (d : Bool) (o a : Option Zone) → firstKind (d && isSome o) (isSome a) false false ≡ 0
+          → (firstKind false false (isSome b) (isSome c) ≡ firstKind (d && isSome o) (isSome a) (isSome b) (isSome c))
+          × (orElse b c ≡ orElse (cond d o none) (orElse a (orElse b c)))
+      go true none none e = (refl, refl)
+      go true none (some y) e = absurd (omega arith)
+      go true (some x) a e = absurd (omega arith)
+      go false o none e = (refl, refl)
+      go false o (some y) e = absurd (omega arith)

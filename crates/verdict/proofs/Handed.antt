@@ -16,7 +16,8 @@ use Rattle.model.proofs.Scope.{rows-cong}
 use Rattle.model.proofs.Theorems.{evidence-1, evidence-2, evidence-3, evidence-4}
 use Rattle.zone.specs.Zone.{Zone}
 use Rattle.verdict.specs.Found.{found1, found2, found3, found4, foundKind, finding}
-use Rattle.verdict.proofs.Rows.{leastFound, firstBy, secondBy, firstHanded, secondHanded}
+use Rattle.databases.proofs.Rows.{firstBy, secondBy}
+use Rattle.verdict.proofs.Rows.{leastFound, firstHanded, secondHanded}
 use Rattle.verdict.proofs.Decided.{kind-2-found, kind-found}
 use Rattle.verdict.proofs.Shown.{kind-1-row, kind-2-row, both-within, kind-3-row, kind-4-row}
 

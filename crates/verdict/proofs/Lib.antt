@@ -6,10 +6,7 @@ pub mod Shown
 pub mod Finding
 pub mod Handed
 pub mod Rooms
-pub mod Databases
-pub mod Asked
-pub mod Listing
-pub mod Pairing
-pub mod Pairs
+pub mod Searching
 pub mod Ready
+pub mod Told
 pub mod Handing

@@ -3,7 +3,7 @@ use mathlib.Core.Path.{refl}
 use mathlib.Core.List.{[], _∷_, map}
 use Prim.Native.Nat.{ℕ, _<_, _≤_}
 use native.Mathlib.Omega.{arith}
-use lib.ListN.{length}
+use lib.ListN.{length, length-map}
 use lib.Dec.{T, ltb, ltb→lt, lt→ltb}
 use mir.Facts.{and-yes, yes-and}
 use Rattle.base.specs.Lists.{_∈_, allOf}
@@ -12,7 +12,7 @@ use Rattle.model.specs.Tables.{Against, column, number, Clause, Condition, Job}
 use Rattle.model.specs.WellFormed.{wellFormed}
 use Rattle.model.specs.Verdict.{columns}
 use Rattle.solver.specs.Solver.{boundsFit, againstFits, comparisonFits}
-use Rattle.solver.proofs.Formed.{outputs-declared, JobTaken, job-taken}
+use Rattle.solver.proofs.Formed.{outputs-declared, few-clauses, JobTaken, job-taken}
 use Rattle.conditions.specs.Uses.{conditionFits}
 use Rattle.twins.specs.Twins.{renamedSide, renamedComparison, renamed}
 use Rattle.verdict.specs.Found.{twin, bothBounds, keepsOne, keepsOther, wantsOne, wantsOther}
@@ -91,3 +91,10 @@ module _ (j : Job) (w : T (wellFormed j)) where
 
   pub wants-other : T (conditionFits m (wantsOther j))
   wants-other = renamed-fits n m (twin j) twin-below (wantsOne j) (taken .query .fit)
+
+  pub few-keeps : length (keepsOne j) ≤ 4
+  few-keeps = few-clauses (taken .extract)
+
+  pub few-wants : length (wantsOther j) ≤ 4
+  unfolding renamed
+  few-wants = omega (arith, length-map (wantsOne j) (map (renamedComparison (twin j))), few-clauses (taken .query))

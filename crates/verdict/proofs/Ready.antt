@@ -1,90 +1,83 @@
--- What the searches ask of a record that reading gives, and what they find there. Assumes nothing.
+-- What the searches ask of columns, an extract and a query that reading gives, and what they find there. Assumes nothing.
 use mathlib.Core.Path.{_≡_, refl, sym, ap, subst, _∙_}
 use mathlib.Core.Bool.{Bool, _||_}
 use mathlib.Core.List.{map-append, List, [], _∷_, _++_, map, append-assoc}
 use mathlib.Core.Option.{Option, none, some}
-use Prim.Native.Nat.{ℕ, _+_, _-_, _<_, _≤_}
+use Prim.Native.Nat.{ℕ, _+_, _-_, _*_, _<_, _≤_}
 use native.Mathlib.Omega.{arith}
 use lib.ListN.{length, getD, take, replicate, length-map, List·getD-map}
 use lib.Seq.{length-take-le}
 use lib.IntN.{ℤ, pos}
 use lib.Dec.{T}
-use Rattle.base.proofs.Options.{first-cong}
-use Rattle.base.proofs.Places.{element}
 use Rattle.base.specs.Lists.{_∈_, allOf, at}
 use Rattle.base.specs.Options.{andThen, isSome}
 use Rattle.base.specs.Arrays.{padded}
 use Rattle.base.proofs.Arrays.{padded-length}
+use Rattle.base.proofs.Options.{first-cong}
+use Rattle.base.proofs.Places.{element}
 use Rattle.model.specs.Tables as model
-use Rattle.model.specs.Tables.{Bounds, Condition}
+use Rattle.model.specs.Tables.{Bounds}
 use Rattle.model.specs.Verdict.{columns, usesOther, tablesDiffer}
+use Rattle.job.specs.declared.Columns.{Columns}
+use Rattle.job.specs.declared.Condition.{Condition}
+use Rattle.job.specs.declared.Expression.{Expression}
+use Rattle.job.specs.declared.Job.{Job}
+use Rattle.job.specs.Record.{noColumn}
+use Rattle.job.specs.Meaning.{conditionOf, expressionOf, jobOf, problem}
+use mir.Val.{Val}
+use denote.Laws.{Is}
+use Rattle.job.proofs.Columns as columns-of
+use Rattle.job.proofs.Expression as expression
+use Rattle.job.proofs.Records.{Sized, sized-columns, sized-expression}
+use Rattle.job.proofs.Declared.{width-is, bounds-are, extract-is, query-is}
+use Rattle.job.proofs.Counts.{used-fit, outputs-fit, clauses-fit, comparisons-fit, condition-is, tables-below}
 use Rattle.zone.specs.Zone.{Zone}
 use Rattle.zone.specs.Array.{zoneIn, laid}
 use Rattle.zone.specs.Uses.{InArray}
 use Rattle.solver.specs.Solver.{boundsFit, boxOf, imposedAll}
 use Rattle.solver.specs.Lists.{boundsOf}
-use Rattle.solver.specs.Uses.{BoundsRoom}
-use Rattle.job.specs.declared.Expression.{Expression}
-use Rattle.job.specs.declared.Job.{Job}
-use Rattle.job.specs.Meaning.{meaningOf, expressionOf}
-use Rattle.job.proofs.Records.{Sized}
-use Rattle.job.proofs.Columns.{width-is, bounds-are, extract-is, query-is}
-use Rattle.job.proofs.Counts.{outputs-fit, clauses-fit, comparisons-fit}
-use Rattle.conditions.specs.declared.Choices.{Choices}
-use Rattle.conditions.specs.Breaking.{choicesOf}
-use Rattle.conditions.specs.Meeting.{byClause, met}
-use Rattle.search.specs.Search.{outside}
-use Rattle.twins.specs.Pairs.{apart, someApart, ifDiffer, pairsOf}
-use Rattle.conditions.specs.Records.{conditionOf, choicesIn, choicesRecord, laidIf}
-use Rattle.conditions.specs.Uses.{conditionFits, Small, Meeting}
-use Rattle.search.specs.Uses.{Searches}
-use Rattle.conditions.proofs.Held.{choices-in, choices-fit, small-from}
+use Rattle.solver.proofs.Formed.{outputs-declared}
+use Rattle.conditions.specs.Meeting.{both, met, pairsOf, always}
+use Rattle.conditions.specs.Uses.{conditionFits, Small, ConditionFits, Searches}
 use Rattle.conditions.proofs.Stands.{Stands}
-use Rattle.conditions.proofs.Found.{Ends}
 use Rattle.twins.specs.declared.TwinRows.{TwinRows}
+use Rattle.twins.specs.Pairs.{apart, someApart, ifDiffer}
 use Rattle.twins.specs.Twins.{hidden, twinBounds, renamed}
-use Rattle.twins.specs.Records.{twinsOf, twinsRecord, renamedClause, renamedExpression}
-use Rattle.twins.specs.Uses.{Paired, Partners, Renames, DiffersTwice, MarksTwice, SearchesIn}
-use Rattle.twins.proofs.Twinned.{record-columns, record-bounds, twin-at}
-use Rattle.twins.proofs.Names.{twins-renamed}
-use Rattle.verdict.specs.Found.{twin, bothBounds, keepsOne, keepsOther, wantsOne, wantsOther, box, box2, found1, found2, found3, found4, unfixedIn}
-use Rattle.verdict.specs.Uses.{Given, bothRows}
-use Rattle.verdict.proofs.Asked.{extract-renames, query-renames}
+use Rattle.twins.specs.Records.{twinsOf, twinsRecord, renamedClause, renamedCondition}
+use Rattle.twins.specs.Uses.{FewColumns, Paired, Partners, Renames, Marks}
+use Rattle.twins.proofs.Twinned.{record-columns, record-bounds, twin-at, twin-names, twins-stand}
+use Rattle.twins.proofs.Names.{compares, twins-renamed}
+use Rattle.databases.specs.Uses.{UsesFew, TablesFew, HasLeast, PairsOne, PairsTwo, ListsColumns}
+use Rattle.verdict.specs.Found.{without, twin, bothBounds, keepsOne, keepsOther, wantsOne, wantsOther, box, box2, found1, found2, found3, found4, unfixedIn}
+use Rattle.verdict.specs.Uses.{LaysRows, Given, bothRows}
 use Rattle.verdict.proofs.Limits.{taken, both-fit, both-most, keeps-one, keeps-other, wants-one, wants-other, first-most, column-below, twin-below}
 use Rattle.verdict.proofs.Decided.{every, one, two}
 use Rattle.verdict.proofs.Rooms.{stands-in-array, stands-zone}
-use Rattle.solver.proofs.Formed.{outputs-declared}
 
 -- ---- searches with another function that agrees
-clause-cong : (z : Zone) (k : Condition) (f g : Zone → Option Zone) → ((y : Zone) → f y ≡ g y) → byClause z k f ≡ byClause z k g
-clause-cong z k f g h = first-cong (λ c. andThen (imposedAll z c) f) (λ c. andThen (imposedAll z c) g) k (λ c m. go (imposedAll z c))
+pairs-cong : (z : Zone) (k l : model.Condition) (f g : Zone → Option Zone) → ((y : Zone) → f y ≡ g y) → pairsOf z k l f ≡ pairsOf z k l g
+unfolding pairsOf
+pairs-cong z k l f g h = first-cong (λ c. andThen (imposedAll z c) f) (λ c. andThen (imposedAll z c) g) (both k l) (λ c m. go (imposedAll z c))
   where
     go : (o : Option Zone) → andThen o f ≡ andThen o g
     go none = refl
     go (some y) = h y
 
-pairs-cong : (z : Zone) (k l : Condition) (f g : Zone → Option Zone) → ((y : Zone) → f y ≡ g y) → pairsOf z k l f ≡ pairsOf z k l g
-unfolding pairsOf
-pairs-cong z k l f g h = clause-cong z k (λ y. byClause y l f) (λ y. byClause y l g) (λ y. clause-cong y l f g h)
-
 apart-cong : (f g : ℕ → ℕ) (cs : List ℕ) → ((c : ℕ) → c ∈ cs → f c ≡ g c) → (z : Zone) → someApart f cs z ≡ someApart g cs z
 unfolding someApart
 apart-cong f g cs h z = first-cong (λ c. apart c (f c) z) (λ c. apart c (g c) z) cs (λ c m. ap (λ (d : ℕ). apart c d z) (h c m))
 
--- ---- expressions
-renamed-small : (t : List ℕ) (e : Expression) → length (e .clauses) ≡ 4 → Small e → Small (renamedExpression t e)
-unfolding renamedExpression
-renamed-small t e four s = record {
+-- ---- conditions
+renamed-small : (t : List ℕ) (k : Condition) → Small k → Small (renamedCondition t k)
+unfolding renamedCondition
+renamed-small t k s = record {
   clauses = s .clauses;
-  comparisons = λ q h. rw (List·getD-map (renamedClause t) (e .clauses) q (record { size = 0; comparisons = [] })) (s .comparisons q h);
+  comparisons = λ q h. rw (List·getD-map (renamedClause t) (k .clauses) q (record { size = 0; comparisons = [] })) (s .comparisons q h);
 }
 
-condition-is : (e : Expression) → conditionOf e ≡ expressionOf e .condition
-unfolding expressionOf
-condition-is e = refl
-
 -- ---- the bounds of the first row
-listed-first : (bs : List Bounds) (xs ys : List ℤ) → boundsOf (take (length bs) (map (λ b. b .lo) bs ++ xs)) (take (length bs) (map (λ b. b .hi) bs ++ ys)) ≡ bs
+listed-first : (bs : List Bounds) (xs ys : List ℤ)
+    → boundsOf (take (length bs) (map (λ b. b .lo) bs ++ xs)) (take (length bs) (map (λ b. b .hi) bs ++ ys)) ≡ bs
 listed-first [] xs ys = refl
 listed-first (b ∷ bs) xs ys = rw (listed-first bs xs ys)
 
@@ -102,42 +95,55 @@ first-bounds bs stored =
     let (ys, f) = padded-front (λ b. b .hi) 32 bs hs in
     rw (e, f) (listed-first bs xs ys)
 
--- a box laid into an array
-boxed : (bs : List Bounds) → length bs ≤ 32 → (z : Zone) → Stands bs every z → (n : ℕ) → n ≡ length bs → (d : List ℕ) → length d ≡ 1089
-    → {b : List ℕ} → b ≡ laid d z → (zoneIn (n + 1) b ≡ z) × InArray (n + 1) b
-boxed bs few z s n is d full left = rw (is, left) (stands-zone bs few every z s d full, stands-in-array bs few every z s d full)
+-- ---- the arrays of the records have their lengths
+pub sizes : (k : Columns) (extract query : Expression) (us vs ws : List Val) → Is columns-of.the-row k us → Is expression.the-row extract vs
+    → Is expression.the-row query ws → Sized (problem k extract query)
+sizes k extract query us vs ws a b c = record {
+  columns = sized-columns k us a;
+  extract = sized-expression extract vs b;
+  query = sized-expression query ws c;
+}
 
--- ---- a record that reading gives, with two of its rows as one
-module _ (r : Job) (g : Given r) (size : Sized r) (rows : TwinRows) (both : rows ≡ bothRows r) where
+-- ---- columns, an extract and a query that reading gives, with two rows as one
+module _ (k : Columns) (extract query : Expression) (g : Given k extract query) (size : Sized (problem k extract query))
+    (rows : TwinRows) (are : rows ≡ bothRows k extract) where
   abbrev j : model.Job
-  j = meaningOf r
+  j = jobOf k extract query
 
-  pub both-is : rows ≡ twinsRecord (columns (meaningOf r)) (meaningOf r .extract .outputs)
-  unfolding meaningOf expressionOf
-  both-is = both ∙ ap (λ (bs : List Bounds). twinsRecord bs (take (r .extract .width) (r .extract .outputs))) (bounds-are r (g .laid))
+  abbrev r : Job
+  r = problem k extract query
 
-  pub columns-is : rows .columns ≡ length (bothBounds j)
+  pub both-is : rows ≡ twinsRecord (columns (jobOf k extract query)) (jobOf k extract query .extract .outputs)
+  unfolding jobOf expressionOf
+  both-is = are ∙ ap (λ (bs : List Bounds). twinsRecord bs (take (extract .width) (extract .outputs))) (bounds-are r (g .laid))
+
+  pub columns-is : rows .columns ≡ length (bothBounds (jobOf k extract query))
   columns-is = rw both-is (record-columns (columns j) (j .extract .outputs))
 
-  width-of : r .width ≡ length (columns j)
+  pub width-of : k .width ≡ length (columns (jobOf k extract query))
   width-of = width-is r (g .laid)
 
   pub columns-most : rows .columns ≤ 32
   columns-most = omega (arith, columns-is, both-most j (g .formed))
 
-  pub width-most : r .width ≤ 16
+  pub width-most : k .width ≤ 16
   width-most = omega (arith, width-of, taken j (g .formed) .few-columns)
 
+  pub width-below : k .width ≤ rows .columns
+  width-below = omega (arith, width-of, columns-is, first-most j (g .formed))
+
   -- ---- the boxes
-  pub lows : length (rows .lo) ≡ 32
+  lows : length (rows .lo) ≡ 32
   unfolding twinsRecord twinsOf
-  lows = rw both-is (padded-length 32 (pos 0) (map (λ b. b .lo) (bothBounds j)) (omega (arith, length-map (bothBounds j) (λ (b : Bounds). b .lo), both-most j (g .formed))))
+  lows = rw both-is (padded-length 32 (pos 0) (map (λ b. b .lo) (bothBounds j))
+      (omega (arith, length-map (bothBounds j) (λ (b : Bounds). b .lo), both-most j (g .formed))))
 
-  pub highs : length (rows .hi) ≡ 32
+  highs : length (rows .hi) ≡ 32
   unfolding twinsRecord twinsOf
-  highs = rw both-is (padded-length 32 (pos 0) (map (λ b. b .hi) (bothBounds j)) (omega (arith, length-map (bothBounds j) (λ (b : Bounds). b .hi), both-most j (g .formed))))
+  highs = rw both-is (padded-length 32 (pos 0) (map (λ b. b .hi) (bothBounds j))
+      (omega (arith, length-map (bothBounds j) (λ (b : Bounds). b .hi), both-most j (g .formed))))
 
-  one-listed : boundsOf (take (r .width) (rows .lo)) (take (r .width) (rows .hi)) ≡ columns j
+  one-listed : boundsOf (take (k .width) (rows .lo)) (take (k .width) (rows .hi)) ≡ columns j
   one-listed =
       ap (λ (n : ℕ). boundsOf (take n (rows .lo)) (take n (rows .hi))) width-of
       ∙ ap (λ (t : TwinRows). boundsOf (take (length (columns j)) (t .lo)) (take (length (columns j)) (t .hi))) both-is
@@ -146,106 +152,96 @@ module _ (r : Job) (g : Given r) (size : Sized r) (rows : TwinRows) (both : rows
   two-listed : boundsOf (take (rows .columns) (rows .lo)) (take (rows .columns) (rows .hi)) ≡ bothBounds j
   two-listed = rw both-is (record-bounds (columns j) (j .extract .outputs))
 
-  bounds-room : (n : ℕ) (bs : List Bounds) → n ≤ 32 → boundsOf (take n (rows .lo)) (take n (rows .hi)) ≡ bs → T (allOf boundsFit bs)
-      → (d : List ℕ) → length d ≡ 1089 → BoundsRoom d (take n (rows .lo)) (take n (rows .hi))
-  bounds-room n bs few is fit d full =
-      let low : length (take n (rows .lo)) ≡ n = length-take-le n (rows .lo) (omega (arith, lows)) in
-      let high : length (take n (rows .hi)) ≡ n = length-take-le n (rows .hi) (omega (arith, highs)) in
-      record { full = full; same = high ∙ sym low; small = omega (arith, low); fit = rw is fit }
+  -- the bounds of n columns are bs, and z is their box
+  module _ (n : ℕ) (few : n ≤ 32) (bs : List Bounds) (is : boundsOf (take n (rows .lo)) (take n (rows .hi)) ≡ bs) (fit : T (allOf boundsFit bs))
+      (same : n ≡ length bs) (z : Zone) (box-is : boxOf bs ≡ z) (stands : Stands bs every z) (d : List ℕ) (room : (n + 1) * 33 ≤ length d) where
+    lays : LaysRows rows n d
+    lays =
+        let low : length (take n (rows .lo)) ≡ n = length-take-le n (rows .lo) (omega (arith, lows)) in
+        let high : length (take n (rows .hi)) ≡ n = length-take-le n (rows .hi) (omega (arith, highs)) in
+        record { few = few; room = record { room = omega (arith, low); same = high ∙ sym low; small = omega (arith, low); fit = rw is fit } }
 
-  pub one-room : (d : List ℕ) → length d ≡ 1089 → BoundsRoom d (take (r .width) (rows .lo)) (take (r .width) (rows .hi))
-  one-room = bounds-room (r .width) (columns j) (omega (arith, width-most)) one-listed (taken j (g .formed) .bounds)
+    boxed : {b : List ℕ} → b ≡ laid d (boxOf (boundsOf (take n (rows .lo)) (take n (rows .hi)))) → (zoneIn (n + 1) b ≡ z) × InArray (n + 1) b
+    boxed left =
+        let at-z : laid d (boxOf (boundsOf (take n (rows .lo)) (take n (rows .hi)))) ≡ laid d z = ap (λ (cs : List Bounds). laid d (boxOf cs)) is ∙ ap (laid d) box-is in
+        let small : length bs ≤ 32 = omega (arith, same) in
+        let enough : (length bs + 1) * 33 ≤ length d = omega (arith, same) in
+        rw (left ∙ at-z, same) (stands-zone bs small every z stands d enough, stands-in-array bs small every z stands d enough)
 
-  pub two-room : (d : List ℕ) → length d ≡ 1089 → BoundsRoom d (take (rows .columns) (rows .lo)) (take (rows .columns) (rows .hi))
-  two-room = bounds-room (rows .columns) (bothBounds j) columns-most two-listed (both-fit j (g .formed))
+  module _ (d : List ℕ) (room : (k .width + 1) * 33 ≤ length d) where
+    pub one-asks : LaysRows rows (k .width) d
+    one-asks = lays (k .width) (omega (arith, width-most)) (columns j) one-listed (taken j (g .formed) .bounds) width-of (box j) refl (one j (g .formed)) d room
 
-  -- b is what is left of d once the bounds are set
-  pub one-box : (d : List ℕ) {b : List ℕ} → length d ≡ 1089 → b ≡ laid d (boxOf (boundsOf (take (r .width) (rows .lo)) (take (r .width) (rows .hi))))
-      → (zoneIn (r .width + 1) b ≡ box j) × InArray (r .width + 1) b
-  one-box d full left =
-      boxed (columns j) (omega (arith, width-of, width-most)) (box j) (one j (g .formed)) (r .width) width-of d full
-      (left ∙ ap (λ (bs : List Bounds). laid d (boxOf bs)) one-listed)
+    pub one-box : {b : List ℕ} → b ≡ laid d (boxOf (boundsOf (take (k .width) (rows .lo)) (take (k .width) (rows .hi))))
+        → (zoneIn (k .width + 1) b ≡ box (jobOf k extract query)) × InArray (k .width + 1) b
+    one-box = boxed (k .width) (omega (arith, width-most)) (columns j) one-listed (taken j (g .formed) .bounds) width-of (box j) refl (one j (g .formed)) d room
 
-  pub two-box : (d : List ℕ) {b : List ℕ} → length d ≡ 1089 → b ≡ laid d (boxOf (boundsOf (take (rows .columns) (rows .lo)) (take (rows .columns) (rows .hi))))
-      → (zoneIn (rows .columns + 1) b ≡ box2 j) × InArray (rows .columns + 1) b
-  two-box d full left =
-      boxed (bothBounds j) (both-most j (g .formed)) (box2 j) (two j (g .formed)) (rows .columns) columns-is d full
-      (left ∙ ap (λ (bs : List Bounds). laid d (boxOf bs)) two-listed)
+  module _ (d : List ℕ) (room : (rows .columns + 1) * 33 ≤ length d) where
+    pub two-asks : LaysRows rows (rows .columns) d
+    two-asks = lays (rows .columns) columns-most (bothBounds j) two-listed (both-fit j (g .formed)) columns-is (box2 j) refl (two j (g .formed)) d room
+
+    pub two-box : {b : List ℕ} → b ≡ laid d (boxOf (boundsOf (take (rows .columns) (rows .lo)) (take (rows .columns) (rows .hi))))
+        → (zoneIn (rows .columns + 1) b ≡ box2 (jobOf k extract query)) × InArray (rows .columns + 1) b
+    two-box = boxed (rows .columns) columns-most (bothBounds j) two-listed (both-fit j (g .formed)) columns-is (box2 j) refl (two j (g .formed)) d room
 
   -- ---- the conditions
-  pub extract-small : Small (r .extract)
-  extract-small = record {
-    clauses = clauses-fit (j .extract) (r .extract) (extract-is r (g .laid)) (size .extract);
-    comparisons = comparisons-fit (j .extract) (r .extract) (extract-is r (g .laid)) (size .extract);
-  }
-
-  pub query-small : Small (r .query)
-  query-small = record {
-    clauses = clauses-fit (j .query) (r .query) (query-is r (g .laid)) (size .query);
-    comparisons = comparisons-fit (j .query) (r .query) (query-is r (g .laid)) (size .query);
-  }
-
-  pub query-outputs : r .query .width ≤ 16
-  query-outputs = outputs-fit (j .query) (r .query) (query-is r (g .laid)) (size .query)
-
-  keeps-is : conditionOf (r .extract) ≡ keepsOne j
-  unfolding meaningOf expressionOf
+  keeps-is : conditionOf (extract .condition) ≡ keepsOne j
+  unfolding jobOf expressionOf
   keeps-is = refl
 
-  wants-is : conditionOf (r .query) ≡ wantsOne j
-  unfolding meaningOf expressionOf
+  wants-is : conditionOf (query .condition) ≡ wantsOne j
+  unfolding jobOf expressionOf
   wants-is = refl
 
-  extract-fits : T (conditionFits (r .width) (conditionOf (r .extract)))
-  extract-fits = subst (λ (n : ℕ). T (conditionFits n (conditionOf (r .extract)))) (sym width-of)
-      (subst (λ (k : Condition). T (conditionFits (length (columns j)) k)) (sym keeps-is) (taken j (g .formed) .extract .fit))
+  extract-small : Small (extract .condition)
+  extract-small =
+      let is = condition-is (j .extract) extract (extract-is r (g .laid)) (size .extract) in
+      record {
+        clauses = clauses-fit (j .extract .condition) (extract .condition) is (size .extract .condition);
+        comparisons = comparisons-fit (j .extract .condition) (extract .condition) is (size .extract .condition);
+      }
 
-  query-fits : T (conditionFits (r .width) (conditionOf (r .query)))
-  query-fits = subst (λ (n : ℕ). T (conditionFits n (conditionOf (r .query)))) (sym width-of)
-      (subst (λ (k : Condition). T (conditionFits (length (columns j)) k)) (sym wants-is) (taken j (g .formed) .query .fit))
+  query-small : Small (query .condition)
+  query-small =
+      let is = condition-is (j .query) query (query-is r (g .laid)) (size .query) in
+      record {
+        clauses = clauses-fit (j .query .condition) (query .condition) is (size .query .condition);
+        comparisons = comparisons-fit (j .query .condition) (query .condition) is (size .query .condition);
+      }
 
-  -- ---- kinds 1 and 2; b has the box of one row
-  module _ {b out : List ℕ} (inside : InArray (r .width + 1) b) (full : length out ≡ 1089) where
-    pub meets-one : Meeting (r .width) b (r .query) out
-    meets-one = record { in-array = inside; full = full; small = query-small; fit = query-fits }
+  -- a condition that is one of the job's fits the columns that the job's does
+  fits : {c : Condition} {n : ℕ} (m : ℕ) → n ≡ m → (k : model.Condition) → conditionOf c ≡ k → T (conditionFits m k) → Small c → ConditionFits n c
+  fits {c} {n} m same k is fit small = record {
+    small = small;
+    fit = subst (λ (n : ℕ). T (conditionFits n (conditionOf c))) (sym same) (subst (λ (k : model.Condition). T (conditionFits m k)) (sym is) fit);
+  }
 
-    pub searches-one : {k : Choices} → k ≡ choicesRecord (choicesOf (conditionOf (r .extract))) → Searches (r .width) b (r .query) k out
-    searches-one same = record {
-      meeting = meets-one;
-      choices = rw same (choices-fit (r .width) (conditionOf (r .extract)) (small-from (r .extract) extract-small .0) (small-from (r .extract) extract-small .1) extract-fits);
-    }
-
-  module _ (z : Zone) (is : z ≡ box j) where
-    pub finds-met : met z (conditionOf (r .query)) ≡ found1 j
-    unfolding found1
-    finds-met = ap (λ (z : Zone). met z (conditionOf (r .query))) is ∙ ap (met (box j)) wants-is
-
-    pub finds-outside : {k : Choices} → k ≡ choicesRecord (choicesOf (conditionOf (r .extract)))
-        → outside z (conditionOf (r .query)) (choicesIn k) ≡ found2 j
-    unfolding found2
-    finds-outside {k} same =
-        ap (λ (z : Zone). outside z (conditionOf (r .query)) (choicesIn k)) is
-        ∙ ap (λ (k : Choices). outside (box j) (conditionOf (r .query)) (choicesIn k)) same
-        ∙ ap (outside (box j) (conditionOf (r .query))) (choices-in (choicesOf (conditionOf (r .extract))))
-        ∙ ap (λ (k : Condition). outside (box j) k (choicesOf (conditionOf (r .extract)))) wants-is
-        ∙ ap (λ (k : Condition). outside (box j) (wantsOne j) (choicesOf k)) keeps-is
+  pub one-searches : {b : List ℕ} → InArray (k .width + 1) b → Searches (k .width) b (extract .condition) (query .condition)
+  one-searches inside = record {
+    in-array = inside;
+    first = fits (length (columns j)) width-of (keepsOne j) keeps-is (taken j (g .formed) .extract .fit) extract-small;
+    second = fits (length (columns j)) width-of (wantsOne j) wants-is (taken j (g .formed) .query .fit) query-small;
+  }
 
   -- ---- the columns and their twins
-  outputs-are : take (r .query .width) (r .query .outputs) ≡ j .query .outputs
-  unfolding meaningOf expressionOf
+  pub query-outputs : query .width ≤ 16
+  query-outputs = outputs-fit (j .query) query (query-is r (g .laid)) (size .query)
+
+  outputs-are : take (query .width) (query .outputs) ≡ j .query .outputs
+  unfolding jobOf expressionOf
   outputs-are = refl
 
   twin-is : (c : ℕ) → c < length (columns j) → at (rows .twin) c ≡ twin j c
   twin-is c h = ap (λ (t : TwinRows). at (t .twin) c) both-is ∙ twin-at (columns j) (j .extract .outputs) c h
 
-  pub paired : Paired (rows .columns) (r .width) (rows .twin)
+  paired : Paired (rows .columns) (k .width) (rows .twin)
   paired = record {
     small = width-most;
-    first-in = omega (arith, width-of, columns-is, first-most j (g .formed));
+    first-in = width-below;
     second-in = λ c h. let l : c < length (columns j) = omega (arith, width-of) in omega (arith, columns-is, twin-is c l, twin-below j (g .formed) c l);
   }
 
-  partners : Partners (rows .columns) (take (r .query .width) (r .query .outputs)) (rows .twin)
+  pub partners : Partners (rows .columns) (take (query .width) (query .outputs)) (rows .twin)
   partners = rw outputs-are (record {
     small = λ i h. omega (arith, declared i h, taken j (g .formed) .few-columns);
     first-in = λ i h. omega (arith, columns-is, column-below j (g .formed) (at (j .query .outputs) i) (declared i h));
@@ -256,117 +252,125 @@ module _ (r : Job) (g : Given r) (size : Sized r) (rows : TwinRows) (both : rows
       declared i h = outputs-declared (taken j (g .formed) .query) (at (j .query .outputs) i) (element (j .query .outputs) i 0 h)
 
   -- ---- the conditions said of the second row
-  few : length (columns j) ≤ 16
-  few = taken j (g .formed) .few-columns
+  few-declared : length (columns j) ≤ 16
+  few-declared = taken j (g .formed) .few-columns
 
-  pub keeps-renames : Renames (r .extract) (rows .twin)
-  keeps-renames = rw both-is (extract-renames r (g .laid) (columns j) (j .extract .outputs) few (taken j (g .formed) .extract .fit))
+  pub keeps-renames : Renames (extract .condition) (rows .twin)
+  keeps-renames = rw both-is (record {
+    compares = compares (length (columns j)) few-declared (j .extract .condition) (taken j (g .formed) .extract .fit) (extract .condition)
+        (condition-is (j .extract) extract (extract-is r (g .laid)) (size .extract));
+    names = twin-names (columns j) (j .extract .outputs) few-declared;
+  })
 
-  pub wants-renames : Renames (r .query) (rows .twin)
-  wants-renames = rw both-is (query-renames r (g .laid) (columns j) (j .extract .outputs) few (taken j (g .formed) .query .fit))
+  pub wants-renames : Renames (query .condition) (rows .twin)
+  wants-renames = rw both-is (record {
+    compares = compares (length (columns j)) few-declared (j .query .condition) (taken j (g .formed) .query .fit) (query .condition)
+        (condition-is (j .query) query (query-is r (g .laid)) (size .query));
+    names = twin-names (columns j) (j .extract .outputs) few-declared;
+  })
 
-  second : (e : Expression) (k : Condition) → conditionOf e ≡ k → T (conditionFits (length (columns j)) k)
-      → conditionOf (renamedExpression (rows .twin) e) ≡ renamed (twin j) k
-  second e k same fit =
-      ap (λ (t : TwinRows). conditionOf (renamedExpression (t .twin) e)) both-is
-      ∙ condition-is (renamedExpression (twinsRecord (columns j) (j .extract .outputs) .twin) e)
-      ∙ twins-renamed (columns j) (j .extract .outputs) e
-      (subst (λ (k : Condition). T (conditionFits (length (columns j)) k)) (sym same ∙ condition-is e) fit)
-      ∙ ap (renamed (twin j)) (sym (condition-is e) ∙ same)
+  second : (c : Condition) (k : model.Condition) → conditionOf c ≡ k → T (conditionFits (length (columns j)) k)
+      → conditionOf (renamedCondition (rows .twin) c) ≡ renamed (twin j) k
+  second c k same fit =
+      ap (λ (t : TwinRows). conditionOf (renamedCondition (t .twin) c)) both-is
+      ∙ twins-renamed (columns j) (j .extract .outputs) c (subst (λ (k : model.Condition). T (conditionFits (length (columns j)) k)) (sym same) fit)
+      ∙ ap (renamed (twin j)) same
 
-  module _ {keeps wants : Expression} (kept : keeps ≡ renamedExpression (rows .twin) (r .extract)) (wanted : wants ≡ renamedExpression (rows .twin) (r .query)) where
+  -- ---- b has the box of two rows as one
+  module _ {keeps : Condition} (kept : keeps ≡ renamedCondition (rows .twin) (extract .condition)) where
     keeps-other-is : conditionOf keeps ≡ keepsOther j
-    keeps-other-is = ap conditionOf kept ∙ second (r .extract) (keepsOne j) keeps-is (taken j (g .formed) .extract .fit)
+    keeps-other-is = ap conditionOf kept ∙ second (extract .condition) (keepsOne j) keeps-is (taken j (g .formed) .extract .fit)
 
-    wants-other-is : conditionOf wants ≡ wantsOther j
-    wants-other-is = ap conditionOf wanted ∙ second (r .query) (wantsOne j) wants-is (taken j (g .formed) .query .fit)
+    keeps-fits : ConditionFits (rows .columns) keeps
+    keeps-fits = fits (length (bothBounds j)) columns-is (keepsOther j) keeps-other-is (keeps-other j (g .formed))
+        (rw kept (renamed-small (rows .twin) (extract .condition) extract-small))
 
-    in-both : (e : Expression) (k : Condition) → conditionOf e ≡ k → T (conditionFits (length (bothBounds j)) k) → T (conditionFits (rows .columns) (conditionOf e))
-    in-both e k same fit = subst (λ (n : ℕ). T (conditionFits n (conditionOf e))) (sym columns-is)
-        (subst (λ (k : Condition). T (conditionFits (length (bothBounds j)) k)) (sym same) fit)
-
-    keeps-small : Small keeps
-    keeps-small = rw kept (renamed-small (rows .twin) (r .extract) (size .extract .clauses) extract-small)
-
-    pub wants-small : Small wants
-    wants-small = rw wanted (renamed-small (rows .twin) (r .query) (size .query .clauses) query-small)
-
-    -- ---- kinds 3 and 4; b has the box of two rows as one
-    module _ {b out : List ℕ} (inside : InArray (rows .columns + 1) b) (full : length out ≡ 1089) where
-      pub searches-two : {k : Choices} → k ≡ choicesRecord (choicesOf (conditionOf wants)) → SearchesIn (rows .columns) b keeps (r .query) k out
-      searches-two same = record {
-        meeting = record { in-array = inside; full = full; small = keeps-small; fit = in-both keeps (keepsOther j) keeps-other-is (keeps-other j (g .formed)) };
-        small = query-small;
-        fit = in-both (r .query) (wantsOne j) wants-is (wants-one j (g .formed));
-        choices = rw same (choices-fit (rows .columns) (conditionOf wants) (small-from wants wants-small .0) (small-from wants wants-small .1)
-            (in-both wants (wantsOther j) wants-other-is (wants-other j (g .formed))));
-      }
-
-      pub differs-two : DiffersTwice (rows .columns) b (r .query) wants (take (r .query .width) (r .query .outputs)) (rows .twin) out
-      differs-two = record {
-        meeting = record { in-array = inside; full = full; small = query-small; fit = in-both (r .query) (wantsOne j) wants-is (wants-one j (g .formed)) };
-        partners = partners;
-        small = wants-small;
-        fit = in-both wants (wantsOther j) wants-other-is (wants-other j (g .formed));
-      }
-
-    module _ (z : Zone) (is : z ≡ box2 j) where
-      pub finds-within : {k : Choices} → k ≡ choicesRecord (choicesOf (conditionOf wants))
-          → byClause z (conditionOf keeps) (λ y. outside y (conditionOf (r .query)) (choicesIn k)) ≡ found3 j
-      unfolding found3
-      finds-within {k} same =
-          let choices : choicesIn k ≡ choicesOf (wantsOther j)
-          = ap choicesIn same ∙ choices-in (choicesOf (conditionOf wants)) ∙ ap choicesOf wants-other-is in
-          ap (λ (z : Zone). byClause z (conditionOf keeps) (λ y. outside y (conditionOf (r .query)) (choicesIn k))) is
-          ∙ ap (λ (e : Condition). byClause (box2 j) e (λ y. outside y (conditionOf (r .query)) (choicesIn k))) keeps-other-is
-          ∙ clause-cong (box2 j) (keepsOther j) (λ y. outside y (conditionOf (r .query)) (choicesIn k)) (λ y. outside y (wantsOne j) (choicesOf (wantsOther j)))
-          (λ y. ap (λ (q : Condition). outside y q (choicesIn k)) wants-is ∙ ap (outside y (wantsOne j)) choices)
-
-      pub finds-differing : pairsOf z (conditionOf (r .query)) (conditionOf wants) (someApart (at (rows .twin)) (take (r .query .width) (r .query .outputs))) ≡ found4 j
-      unfolding found4
-      finds-differing =
-          ap (λ (z : Zone). pairsOf z (conditionOf (r .query)) (conditionOf wants) apart-by) is
-          ∙ ap (λ (k : Condition). pairsOf (box2 j) (conditionOf (r .query)) k apart-by) wants-other-is
-          ∙ pairs-cong (box2 j) (conditionOf (r .query)) (wantsOther j) apart-by (someApart (twin j) (j .query .outputs)) same-apart
-          ∙ ap (λ (k : Condition). pairsOf (box2 j) k (wantsOther j) (someApart (twin j) (j .query .outputs))) wants-is
-        where
-          apart-by : Zone → Option Zone
-          apart-by = someApart (at (rows .twin)) (take (r .query .width) (r .query .outputs))
-
-          same-apart : (y : Zone) → apart-by y ≡ someApart (twin j) (j .query .outputs) y
-          same-apart y = ap (λ (cs : List ℕ). someApart (at (rows .twin)) cs y) outputs-are ∙ apart-cong (at (rows .twin)) (twin j) (j .query .outputs) (λ c m. twin-is c (outputs-declared (taken j (g .formed) .query) c m)) y
-
-    -- ---- the columns that aren't fixed
-    pub marks-two : {b : List ℕ} {marks : List Bool} → InArray (rows .columns + 1) b → length marks ≡ 16
-        → MarksTwice (rows .columns) b (r .extract) keeps (r .width) (rows .twin) marks
-    marks-two inside sixteen = record {
-      first = record {
-        in-array = inside;
-        small = extract-small;
-        fit = in-both (r .extract) (keepsOne j) keeps-is (keeps-one j (g .formed));
-        paired = paired;
-        sixteen = sixteen;
-      };
-      small = keeps-small;
-      fit = in-both keeps (keepsOther j) keeps-other-is (keeps-other j (g .formed));
+    pub two-searches : {b : List ℕ} → InArray (rows .columns + 1) b → Searches (rows .columns) b keeps (query .condition)
+    two-searches inside = record {
+      in-array = inside;
+      first = keeps-fits;
+      second = fits (length (bothBounds j)) columns-is (wantsOne j) wants-is (wants-one j (g .formed)) query-small;
     }
 
-    pub finds-unfixed : (z : Zone) → z ≡ box2 j → (c : ℕ) → c < r .width
-        → isSome (pairsOf z (conditionOf (r .extract)) (conditionOf keeps) (ifDiffer c (at (rows .twin) c))) ≡ unfixedIn j c
+    -- ---- the columns that aren't fixed
+    pub marks-two : {b y : List ℕ} {marks : List Bool} → InArray (rows .columns + 1) b → (rows .columns + 1) * 33 ≤ length y → length marks ≡ 16
+        → Marks (rows .columns) b (extract .condition) keeps (k .width) (rows .twin) y marks
+    marks-two inside room sixteen = record {
+      searches = record {
+        in-array = inside;
+        first = fits (length (bothBounds j)) columns-is (keepsOne j) keeps-is (keeps-one j (g .formed)) extract-small;
+        second = keeps-fits;
+      };
+      paired = paired;
+      room = room;
+      sixteen = sixteen;
+    }
+
+    pub finds-unfixed : (z : Zone) → z ≡ box2 (jobOf k extract query) → (c : ℕ) → c < k .width
+        → isSome (pairsOf z (conditionOf (extract .condition)) (conditionOf keeps) (ifDiffer c (at (rows .twin) c))) ≡ unfixedIn (jobOf k extract query) c
     unfolding unfixedIn
-    finds-unfixed z is c h =
-        let same : at (rows .twin) c ≡ twin j c = twin-is c (omega (arith, width-of)) in
-        ap (λ (z : Zone). isSome (pairsOf z (conditionOf (r .extract)) (conditionOf keeps) (ifDiffer c (at (rows .twin) c)))) is
-        ∙ ap (λ (k : Condition). isSome (pairsOf (box2 j) (conditionOf (r .extract)) k (ifDiffer c (at (rows .twin) c)))) keeps-other-is
-        ∙ ap (λ (t : ℕ). isSome (pairsOf (box2 j) (conditionOf (r .extract)) (keepsOther j) (ifDiffer c t))) same
-        ∙ ap (λ (k : Condition). isSome (pairsOf (box2 j) k (keepsOther j) (ifDiffer c (twin j c)))) keeps-is
+    finds-unfixed z is c h = rw (is, keeps-other-is, keeps-is, twin-is c (omega (arith, width-of)))
 
--- what is found, under another name
-pub ends-as : {o p : Option Zone} (old : List ℕ) {e : List ℕ} {r : Bool} → o ≡ p → (r ≡ isSome o) × (e ≡ laidIf old o) → Ends p old r e
-ends-as old same (told, left) = (told ∙ ap isSome same, left ∙ ap (laidIf old) same)
+    module _ {wants : Condition} (wanted : wants ≡ renamedCondition (rows .twin) (query .condition)) where
+      wants-other-is : conditionOf wants ≡ wantsOther j
+      wants-other-is = ap conditionOf wanted ∙ second (query .condition) (wantsOne j) wants-is (taken j (g .formed) .query .fit)
 
-pub tables-told : (r : Job) {b : Bool}
-    → b ≡ (usesOther (expressionOf (r .extract)) (expressionOf (r .query)) || usesOther (expressionOf (r .query)) (expressionOf (r .extract)))
-    → b ≡ tablesDiffer (meaningOf r)
-unfolding tablesDiffer meaningOf
-tables-told r e = e
+      pub wants-fits : ConditionFits (rows .columns) wants
+      wants-fits = fits (length (bothBounds j)) columns-is (wantsOther j) wants-other-is (wants-other j (g .formed))
+          (rw wanted (renamed-small (rows .twin) (query .condition) query-small))
+
+      pub finds-two : (z : Zone) → z ≡ box2 (jobOf k extract query)
+          → (without z (conditionOf keeps) (conditionOf (query .condition)) (conditionOf wants) ≡ found3 (jobOf k extract query))
+          × (pairsOf z (conditionOf (query .condition)) (conditionOf wants) (someApart (at (rows .twin)) (take (query .width) (query .outputs)))
+          ≡ found4 (jobOf k extract query))
+      unfolding found3 found4
+      finds-two z is = (
+        rw (is, keeps-other-is, wants-other-is, wants-is),
+        rw (is, wants-other-is, wants-is, outputs-are) (pairs-cong (box2 j) (wantsOne j) (wantsOther j) (someApart (at (rows .twin)) (j .query .outputs))
+            (someApart (twin j) (j .query .outputs))
+            (apart-cong (at (rows .twin)) (twin j) (j .query .outputs) (λ c m. twin-is c (outputs-declared (taken j (g .formed) .query) c m)))),
+      )
+
+  pub finds-met : (z : Zone) → z ≡ box (jobOf k extract query) → met z (conditionOf (query .condition)) ≡ found1 (jobOf k extract query)
+  unfolding found1
+  finds-met z is = rw (is, wants-is)
+
+  pub finds-one : (z : Zone) → z ≡ box (jobOf k extract query)
+      → without z always (conditionOf (query .condition)) (conditionOf (extract .condition)) ≡ found2 (jobOf k extract query)
+  unfolding found2
+  finds-one z is = rw (is, wants-is, keeps-is)
+
+  -- ---- what the databases and the listing ask
+  pub few-columns : FewColumns k (extract .width)
+  few-columns = record { width = width-most; few = outputs-fit (j .extract) extract (extract-is r (g .laid)) (size .extract) }
+
+  pub few-used : UsesFew extract query
+  few-used = record {
+    first = used-fit (j .extract) extract (extract-is r (g .laid)) (size .extract);
+    second = used-fit (j .query) query (query-is r (g .laid)) (size .query);
+  }
+
+  few-tables : TablesFew k
+  few-tables = record { width = width-most; tables = λ c. tables-below r (g .laid) c noColumn }
+
+  pub lists-columns : ListsColumns k extract
+  lists-columns = record { width = width-most; tables = few-used .first; stored = few-columns .few }
+
+  pub pairs-one : {d : List ℕ} → HasLeast (k .width) d → PairsOne k extract query d
+  pairs-one least = record { makes = record { few = few-tables; extract-used = few-used .first; query-used = few-used .second }; least = least }
+
+  pub pairs-two : {d : List ℕ} → HasLeast (rows .columns) d → PairsTwo k query rows d
+  pairs-two least =
+      let stands = twins-stand (columns j) (j .extract .outputs) few-declared in
+      record {
+        few = few-tables;
+        query-used = few-used .second;
+        first-in = width-below;
+        second-in = record { few = width-most; stand = λ c h. rw both-is (stands .stand c (omega (arith, width-of))) };
+        least = least;
+      }
+
+  pub tables-told : {b : Bool} → b ≡ (usesOther (expressionOf extract) (expressionOf query) || usesOther (expressionOf query) (expressionOf extract))
+      → b ≡ tablesDiffer (jobOf k extract query)
+  unfolding tablesDiffer jobOf
+  tables-told e = e

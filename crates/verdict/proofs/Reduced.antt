@@ -19,7 +19,7 @@ use Rattle.model.specs.Verdict.{columns, meetsExtract, meetsQuery, stored, answ
 use Rattle.model.proofs.Rows.{has-some, some-cong, two-cong}
 use Rattle.solver.proofs.Formed.{scope-declared}
 use Rattle.verdict.specs.Found.{twin, bothBounds, keepsOne, keepsOther, wantsOne, wantsOther}
-use Rattle.verdict.proofs.Rows.{oneRow, otherRow}
+use Rattle.databases.proofs.Rows.{oneRow, otherRow}
 use Rattle.twins.proofs.Twins.{first-value, second-value, twins-same, first-within, second-within, twins-sought}
 use Rattle.twins.proofs.Renamed.{first-holds, second-holds}
 

@@ -2,7 +2,7 @@
 use mathlib.Core.Path.{_≡_, sym, ap, _∙_}
 use mathlib.Core.Bool.{Bool}
 use mathlib.Core.List.{List}
-use Prim.Native.Nat.{ℕ, suc, _+_, _<_, _≤_}
+use Prim.Native.Nat.{ℕ, suc, _+_, _*_, _<_, _≤_}
 use native.Mathlib.Omega.{arith}
 use native.Mathlib.Numerals.{add-one}
 use lib.ListN.{length, getD}
@@ -51,14 +51,15 @@ module _ (bs : List Bounds) (small : length bs ≤ 32) (p : Row → Bool) (z : Z
   long : length z ≡ length bs + 1
   long = s .size ∙ sym (add-one (length bs))
 
-  module _ (d : List ℕ) (full : length d ≡ 1089) where
+  -- laid there
+  module _ (d : List ℕ) (room : (length bs + 1) * 33 ≤ length d) where
     pub stands-in-array : InArray (length bs + 1) (laid d z)
-    stands-in-array = laid-in-array (length bs + 1) d z full (omega arith) (s .closed) long
+    stands-in-array = laid-in-array (length bs + 1) d z room (omega arith) (s .closed) long
 
     pub stands-zone : zoneIn (length bs + 1) (laid d z) ≡ z
-    stands-zone = laid-is (length bs + 1) d z full (omega arith) (s .closed) long
+    stands-zone = laid-is (length bs + 1) d z room (omega arith) (s .closed) long
 
-  module _ (range : T (allOf near bs)) (row : List ℤ) (room : length row ≡ length bs) where
+  module _ (range : T (allOf near bs)) (row : List ℤ) (size : length row ≡ length bs) where
     least-words : WordNodes (leastOf z) row
     least-words =
         let x = leastOf z in
@@ -68,13 +69,14 @@ module _ (bs : List Bounds) (small : length bs ≤ 32) (p : Row → Bool) (z : Z
         = λ i h. ap (λ (x : List ℕ). at x (suc i)) (sym e) ∙ map-at r i (omega (arith, pairwise-length inside bs r w)) in
         let word : (i : ℕ) → i < length row → mag (value r i) < signBit 4 = λ i h. within-word bs range r w i (omega arith) in
         record {
-          size = least-length z (s .closed) ∙ long ∙ ap (λ (n : ℕ). n + 1) (sym room);
+          size = least-length z (s .closed) ∙ long ∙ ap (λ (n : ℕ). n + 1) (sym size);
           low = λ i h. omega (arith, node i h, biased-low bias (signBit 4) (value r i) (word i h));
           high = λ i h. omega (arith, node i h, biased-high bias (signBit 4) (value r i) (word i h));
         }
 
-    pub least-room : (d : List ℕ) → length d ≡ 1089 → LeastRoom (laid d z) row
-    least-room d full = record {
-      in-array = rw room (stands-in-array d full);
-      words = rw (room, stands-zone d full) least-words;
+    -- the zone lies in d
+    pub least-room : (d : List ℕ) → (length bs + 1) * 33 ≤ length d → zoneIn (length bs + 1) d ≡ z → LeastRoom d row
+    least-room d room there = record {
+      in-array = rw size (record { room = room; small = omega arith; closed = rw there (s .closed) });
+      words = rw (size, there) least-words;
     }

@@ -11,7 +11,7 @@ use Rattle.zone.specs.Zone.{Zone, leastOf}
 use Rattle.solver.specs.Solver.{rowOf}
 use Rattle.conditions.proofs.Sought.{sought-row}
 use Rattle.verdict.specs.Found.{bothBounds, keepsOne, wantsOne, found1, found2, found3, found4}
-use Rattle.verdict.proofs.Rows.{oneRow, otherRow}
+use Rattle.databases.proofs.Rows.{oneRow, otherRow}
 use Rattle.twins.proofs.Twins.{first-within, second-within}
 use Rattle.verdict.proofs.Reduced.{asked3, asked4, witness3-both, witness4-both}
 use Rattle.verdict.proofs.Decided.{every, kind-1-zone, kind-2-zone, kind-3-zone, kind-4-zone}

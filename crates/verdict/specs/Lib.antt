@@ -1,5 +1,3 @@
 pub mod Found
-pub mod Databases
-pub mod Listing
 pub mod Uses
 pub mod Verdict

@@ -1,85 +1,62 @@
 -- What the functions ask of their callers, all of which is code of this repository.
 use mathlib.Core.Path.{_≡_}
 use mathlib.Core.List.{List, map}
-use Prim.Native.Nat.{ℕ, _<_, _≤_}
+use Prim.Native.Nat.{ℕ, _+_, _*_, _≤_}
 use lib.ListN.{length, take}
 use lib.Dec.{T}
-use lib.IntN.{ℤ}
 use Rattle.model.specs.WellFormed.{wellFormed}
-use Rattle.solver.specs.Uses.{LeastRoom}
+use Rattle.job.specs.declared.Columns.{Columns}
+use Rattle.job.specs.declared.Condition.{Condition}
 use Rattle.job.specs.declared.Expression.{Expression}
-use Rattle.job.specs.declared.Job.{Job}
-use Rattle.job.specs.Meaning.{boundsOf, meaningOf, recordOf}
+use Rattle.job.specs.Meaning.{boundsOf, jobOf, recordOf, problem}
+use Rattle.solver.specs.Uses.{BoundsRoom}
+use Rattle.conditions.specs.Uses.{ConditionFits, Searches}
+use Rattle.search.specs.Uses.{Room}
 use Rattle.twins.specs.declared.TwinRows.{TwinRows}
 use Rattle.twins.specs.Records.{twinsRecord}
-use Rattle.twins.specs.Uses.{TwinsStand}
-use Rattle.verdict.specs.Databases.{tableAt}
+use Rattle.twins.specs.Uses.{Partners}
 
--- two expressions whose used tables are no more than their arrays hold
-pub record UsesFew (e f : Expression) : Type 0 where
-  pub first : e .tables ≤ 4
-  pub second : f .tables ≤ 4
+-- bounds of n columns, and room for their zone
+pub record LaysRows (rows : TwinRows) (n : ℕ) (d : List ℕ) : Type 0 where
+  pub few : n ≤ 32
+  pub room : BoundsRoom d (take n (rows .lo)) (take n (rows .hi))
 
--- columns and their tables are no more than there can be
-pub record TablesFew (r : Job) : Type 0 where
-  pub width : r .width ≤ 16
-  pub tables : (c : ℕ) → c < r .width → tableAt (r .columns) c < 4
+-- ---- Arrays to search in
 
--- a job whose rows are made databases
-pub record MakesDatabases (r : Job) : Type 0 where
-  pub few : TablesFew r
-  pub extract : r .extract .tables ≤ 4
-  pub query : r .query .tables ≤ 4
+-- room for ways, and for zones of n nodes
+pub record Lent (n : ℕ) (ways x y v w out : List ℕ) : Type 0 where
+  pub size : length ways ≡ 144
+  pub pair : n * 33 ≤ length x
+  pub room : Room n y v w out
 
--- an array with a zone of n columns, whose least row can be read
-abbrev pub HasLeast : ℕ → List ℕ → Type 0
-HasLeast n d = (row : List ℤ) → length row ≡ n → LeastRoom d row
+pub record FindsOne (n : ℕ) (z : List ℕ) (keeps wants : Condition) (ways x y v w out : List ℕ) : Type 0 where
+  pub searches : Searches n z keeps wants
+  pub lent : Lent (n + 1) ways x y v w out
 
--- a job, and the zone that was found: of its columns
-pub record PairsOne (r : Job) (d : List ℕ) : Type 0 where
-  pub job : MakesDatabases r
-  pub least : HasLeast (r .width) d
-
--- of the columns of two rows as one
-pub record PairsTwo (r : Job) (rows : TwinRows) (d : List ℕ) : Type 0 where
-  pub job : MakesDatabases r
-  pub first-in : r .width ≤ rows .columns
-  pub second-in : TwinsStand (rows .twin) (r .width)
-  pub least : HasLeast (rows .columns) d
-
--- of those that the kind calls for
-pub record PairsBy (r : Job) (rows : TwinRows) (kind : ℕ) (d : List ℕ) : Type 0 where
-  pub one : 0 < kind → kind < 3 → PairsOne r d
-  pub two : 3 ≤ kind → PairsTwo r rows d
-
--- a job whose columns are listed
-pub record ListsColumns (r : Job) : Type 0 where
-  pub width : r .width ≤ 16
-  pub tables : r .extract .tables ≤ 4
-  pub stored : r .extract .width ≤ 16
-
-pub record ListsColumn (r : Job) (c : ℕ) : Type 0 where
-  pub job : ListsColumns r
-  pub place : c < 16
+pub record FindsTwo (n : ℕ) (z : List ℕ) (keeps wants others : Condition) (cs twin ways x y v w out : List ℕ) : Type 0 where
+  pub searches : Searches n z keeps wants
+  pub third : ConditionFits n others
+  pub partners : Partners n cs twin
+  pub lent : Lent (n + 1) ways x y v w out
 
 -- ---- Deciding
 
--- a record that reading gives
-pub record Given (r : Job) : Type 0 where
-  pub formed : T (wellFormed (meaningOf r))
-  pub laid : recordOf (meaningOf r) ≡ r
+-- columns, an extract and a query that reading gives
+pub record Given (k : Columns) (extract query : Expression) : Type 0 where
+  pub formed : T (wellFormed (jobOf k extract query))
+  pub laid : recordOf (jobOf k extract query) ≡ problem k extract query
 
--- two rows of a job that agree in the columns that the extract stores
-abbrev pub bothRows : Job → TwinRows
-bothRows r = twinsRecord (map boundsOf (take (r .width) (r .columns))) (take (r .extract .width) (r .extract .outputs))
+-- two rows that agree in the columns that the extract stores
+abbrev pub bothRows : Columns → Expression → TwinRows
+bothRows k extract = twinsRecord (map boundsOf (take (k .width) (k .columns))) (take (extract .width) (extract .outputs))
 
--- with room for a zone
-pub record Finds (r : Job) (rows : TwinRows) (out : List ℕ) : Type 0 where
-  pub given : Given r
-  pub both : rows ≡ bothRows r
-  pub full : length out ≡ 1089
+pub record Decides (k : Columns) (extract query : Expression) (rows : TwinRows) : Type 0 where
+  pub given : Given k extract query
+  pub both : rows ≡ bothRows k extract
 
--- without
-pub record Lists (r : Job) (rows : TwinRows) : Type 0 where
-  pub given : Given r
-  pub both : rows ≡ bothRows r
+-- with room for the zone of both rows, and for others
+pub record DecidesIn (k : Columns) (extract query : Expression) (rows : TwinRows) (b x y v w out : List ℕ) : Type 0 where
+  pub decides : Decides k extract query rows
+  pub rows-room : (rows .columns + 1) * 33 ≤ length b
+  pub pair : (rows .columns + 1) * 33 ≤ length x
+  pub room : Room (rows .columns + 1) y v w out

@@ -1,351 +1,127 @@
-// What follows from a job's definitions before any data: the kind, the listing and the two databases.
+// What follows from declared columns, an extract and a query before any data: the kind, the listing and the two databases.
 ghost use mathlib.Core.Path.{_≡_};
-ghost use mathlib.Core.Bool.{false, cond, _&&_, _||_};
-ghost use Prim.Native.Nat.{_≤_};
-ghost use lib.ListN.{replicate};
-ghost use lib.IntN.{pos};
-ghost use Rattle.base.specs.Arrays.{padded};
-ghost use Rattle.model.specs.Tables.{uses};
-ghost use Rattle.model.specs.Verdict.{usesOther, kindOf};
-ghost use Rattle.job.specs.Meaning.{expressionOf, meaningOf};
-ghost use Rattle.conditions.specs.Records.{laidIf};
-ghost use Rattle.verdict.specs.Found.{oneKind, oneFound, twoKind, twoFound, foundKind, finding, unfixedIn};
+ghost use Prim.Native.Nat.{_+_, _<_};
+ghost use lib.ListN.{take};
+ghost use Rattle.base.specs.Lists.{at};
+ghost use Rattle.model.specs.Verdict.{kindOf};
+ghost use Rattle.job.specs.Meaning.{conditionOf, jobOf};
+ghost use Rattle.zone.specs.Array.{zoneIn, laid};
+ghost use Rattle.solver.specs.Solver.{boxOf};
+ghost use Rattle.solver.specs.Lists.{boundsOf};
+ghost use Rattle.conditions.specs.Meeting.{Lies};
+ghost use Rattle.twins.specs.Pairs.{someApart};
+ghost use Rattle.verdict.specs.Found.{oneKind, oneFound, twoKind, twoFound};
 ghost use Rattle.verdict.specs.Verdict.{listingRecord, HandsOut};
-ghost use Rattle.twins.specs.Marks.{marked};
-ghost use Rattle.verdict.specs.Databases.{noDatabase, databaseRecord, presentIn, rowRecord, reducedRecord, leastIn, onePair, twoPair, pairRecord, shownColumns};
-ghost use Rattle.verdict.specs.Listing.{listedAt, listedBy};
-ghost use Rattle.verdict.specs.Uses.{UsesFew, TablesFew, MakesDatabases, HasLeast, PairsOne, PairsTwo, PairsBy, ListsColumns, ListsColumn, Given, Finds, Lists};
+ghost use Rattle.verdict.specs.Uses.{LaysRows, FindsOne, FindsTwo, Given, Decides, DecidesIn};
+use databases::Database;
+use job::Columns;
+use job::Condition;
 use job::Expression;
 use job::Job;
 use twins::TwinRows;
 
-// At most one row in each table: in which tables there is one, and the values of its columns.
-pub struct Database {
-    pub present: [bool; Job::TABLES],
-    pub values: [i32; Job::COLUMNS],
-}
-
-// Two databases.
-pub struct Pair {
-    pub first: Database,
-    pub second: Database,
-}
-
-// ---- Tables
-
-fn uses(e: Expression, t: u8) -> bool
-    requires { ⌜ e .tables ≤ 4 ⌝ }
-    ensures { λ r. ⌜ r ≡ uses (expressionOf e) t ⌝ }
-{
-    let used = e.used;
-    base::is_among(&used, e.tables, t)
-}
-
-// Whether an expression uses a table that another doesn't.
-fn uses_other(e: Expression, f: Expression) -> bool
-    requires { ⌜ UsesFew e f ⌝ }
-    ensures { λ r. ⌜ r ≡ usesOther (expressionOf e) (expressionOf f) ⌝ }
-{
-    let n = e.tables;
-    let used = e.used;
-    let mut i = 0;
-    while i < n {
-        if !uses(f, used[i]) {
-            return true;
-        }
-        i += 1;
-    }
-    false
-}
-
-// ---- Databases
-
-fn both_use(e: Expression, f: Expression, t: u8) -> bool
-    requires { ⌜ UsesFew e f ⌝ }
-    ensures { λ r. ⌜ r ≡ (uses (expressionOf e) t && uses (expressionOf f) t) ⌝ }
-{
-    if !uses(e, t) {
-        return false;
-    }
-    uses(f, t)
-}
-
-// The tables that both expressions use.
-fn present(e: Expression, f: Expression) -> [bool; Job::TABLES]
-    requires { ⌜ UsesFew e f ⌝ }
-    ensures { λ r. ⌜ r ≡ presentIn (expressionOf e) (expressionOf f) ⌝ }
-{
-    [
-        both_use(e, f, 0),
-        both_use(e, f, 1),
-        both_use(e, f, 2),
-        both_use(e, f, 3),
-    ]
-}
-
-fn kept(there: bool, v: i32) -> i32
-    ensures { λ r. ⌜ r ≡ cond there v (pos 0) ⌝ }
-{
-    if there { v } else { 0 }
-}
-
-// A row's values in the tables that are present.
-fn database_of(job: Job, present: [bool; Job::TABLES], row: [i32; Job::COLUMNS]) -> Database
-    requires { ⌜ TablesFew job ⌝ }
-    ensures { λ r. ⌜ r ≡ databaseRecord job present row ⌝ }
-{
-    let n = job.width;
-    let columns = job.columns;
-    let mut values = [0i32; Job::COLUMNS];
-    let mut c = 0;
-    while c < n {
-        let column = columns[c];
-        values[c] = kept(present[column.table as usize], row[c]);
-        c += 1;
-    }
-    Database {
-        present: present,
-        values: values,
-    }
-}
-
-pub fn no_database() -> Database
-    ensures { λ r. ⌜ r ≡ noDatabase ⌝ }
-{
-    Database {
-        present: [false; Job::TABLES],
-        values: [0; Job::COLUMNS],
-    }
-}
-
-// A row in each table that the query uses.
-fn row_database(job: Job, row: [i32; Job::COLUMNS]) -> Database
-    requires { ⌜ MakesDatabases job ⌝ }
-    ensures { λ r. ⌜ r ≡ rowRecord job row ⌝ }
-{
-    let query = job.query;
-    let tables = present(query, query);
-    database_of(job, tables, row)
-}
-
-// Where the query uses a table that the extract doesn't, the same without such tables; otherwise no row at all.
-fn reduced_database(job: Job, row: [i32; Job::COLUMNS]) -> Database
-    requires { ⌜ MakesDatabases job ⌝ }
-    ensures { λ r. ⌜ r ≡ reducedRecord job row ⌝ }
-{
-    let query = job.query;
-    let extract = job.extract;
-    if !uses_other(query, extract) {
-        return no_database();
-    }
-    let tables = present(query, extract);
-    database_of(job, tables, row)
-}
-
-// ---- The two databases
-
-// The least row of the zone of n columns in d, with zeros behind.
-fn least_of(d: &[u64; zone::SIZE], n: usize) -> [i32; twins::COLUMNS]
-    requires { ⌜ HasLeast n (now d) ⌝ }
-    ensures { λ r. ⌜ r ≡ padded 32 (pos 0) (leastIn n (now (d .entry))) ⌝ }
-{
-    let mut least = [0i32; twins::COLUMNS];
-    solver::read_least(d, &mut least[..n]);
-    least
-}
-
-// Of the least row: the row, and what is left of it without other tables, or none.
-fn one_row_pair(job: Job, kind: u8, d: &[u64; zone::SIZE]) -> Pair
-    requires { ⌜ PairsOne job (now d) ⌝ }
-    ensures { λ r. ⌜ r ≡ onePair job kind (leastIn (job .width) (now (d .entry))) ⌝ }
-{
-    let n = job.width;
-    let least = least_of(d, n);
-    let row = twins::first_row(least, n);
-    let first = row_database(job, row);
-    if kind == 1 {
-        let second = reduced_database(job, row);
-        return Pair {
-            first: first,
-            second: second,
-        };
-    }
-    let second = no_database();
-    Pair {
-        first: first,
-        second: second,
-    }
-}
-
-// Of the least row of two as one: the two rows.
-fn two_row_pair(job: Job, rows: TwinRows, d: &[u64; zone::SIZE]) -> Pair
-    requires { ⌜ PairsTwo job rows (now d) ⌝ }
-    ensures { λ r. ⌜ r ≡ twoPair job (rows .twin) (leastIn (rows .columns) (now (d .entry))) ⌝ }
-{
-    let n = job.width;
-    let twin = rows.twin;
-    let least = least_of(d, rows.columns);
-    let one = twins::first_row(least, n);
-    let other = twins::second_row(least, twin, n);
-    let first = row_database(job, one);
-    let second = row_database(job, other);
-    Pair {
-        first: first,
-        second: second,
-    }
-}
-
-// Of a kind, and the zone that was found for it: with kind 0, which has none, d isn't looked at.
-fn pair_of(job: Job, rows: TwinRows, kind: u8, d: &[u64; zone::SIZE]) -> Pair
-    requires { ⌜ PairsBy job rows kind (now d) ⌝ }
-    ensures { λ r. ⌜ r ≡ pairRecord job (rows .twin) kind (leastIn (shownColumns job rows kind) (now (d .entry))) ⌝ }
-{
-    if kind == 0 {
-        let none = no_database();
-        return Pair {
-            first: none,
-            second: none,
-        };
-    }
-    if kind < 3 {
-        return one_row_pair(job, kind, d);
-    }
-    two_row_pair(job, rows, d)
-}
-
-// ---- The listing
-
-fn listed(job: Job, marks: [bool; Job::COLUMNS], c: usize) -> u8
-    requires { ⌜ ListsColumn job c ⌝ }
-    ensures { λ r. ⌜ r ≡ listedAt job marks c ⌝ }
-{
-    let columns = job.columns;
-    let extract = job.extract;
-    let m = extract.width;
-    let outputs = extract.outputs;
-    let column = columns[c];
-    if !uses(extract, column.table) {
-        return 0;
-    }
-    if base::is_among(&outputs, m, c as u8) {
-        return 1;
-    }
-    if marks[c] { 3 } else { 2 }
-}
-
-// For each column 0 where the extract doesn't use its table, 1 where it is stored, 2 where it is fixed, else 3; the marks are on those that aren't fixed.
-fn listing_of(job: Job, marks: [bool; Job::COLUMNS]) -> [u8; Job::COLUMNS]
-    requires { ⌜ ListsColumns job ⌝ }
-    ensures { λ r. ⌜ r ≡ listedBy job marks ⌝ }
-{
-    let n = job.width;
-    let mut listing = [0u8; Job::COLUMNS];
-    let mut c = 0;
-    while c < n {
-        listing[c] = listed(job, marks, c);
-        c += 1;
-    }
-    listing
-}
+// The numbers of an array for a zone of few columns: node 0 and up to twelve others.
+const SMALL: usize = 13 * zone::WIDTH;
 
 // ---- The kind
 
-// Whether two expressions use different tables.
-fn tables_differ(e: Expression, f: Expression) -> bool
-    requires { ⌜ UsesFew e f ⌝ }
-    ensures { λ r. ⌜ r ≡ (usesOther (expressionOf e) (expressionOf f) || usesOther (expressionOf f) (expressionOf e)) ⌝ }
+// The first n columns of two rows as one, within their bounds: lays the zone of these rows into d.
+fn lay_rows(rows: TwinRows, n: usize, d: &mut [u64])
+    requires { ⌜ LaysRows rows n (now d) ⌝ }
+    ensures { λ _. ⌜ now (d .exit) ≡ laid (now (d .entry)) (boxOf (boundsOf (take n (rows .lo)) (take n (rows .hi)))) ⌝ }
 {
-    if uses_other(e, f) {
-        return true;
-    }
-    uses_other(f, e)
-}
-
-// Kind 1 or 2, and the rows that show it, or 0.
-fn find_one(job: Job, rows: TwinRows, out: &mut [u64; zone::SIZE]) -> u8
-    requires { ⌜ Finds job rows (now out) ⌝ }
-    ensures kind { λ r. ⌜ r ≡ oneKind (meaningOf job) ⌝ }
-    ensures zone { λ _. ⌜ now (out .exit) ≡ laidIf (now (out .entry)) (oneFound (meaningOf job)) ⌝ }
-{
-    let n = job.width;
     let lo = rows.lo;
     let hi = rows.hi;
-    let extract = job.extract;
-    let query = job.query;
-    let mut boxed = [0u64; zone::SIZE];
-    solver::set_bounds(&mut boxed, &lo[..n], &hi[..n]);
-    if tables_differ(extract, query) {
-        if conditions::met(&boxed, n, query, &mut *out) {
+    solver::set_bounds(&mut *d, &lo[..n], &hi[..n]);
+}
+
+// Kind 1 or 2, and the rows of a zone that show it, or 0; `differ` says whether the used tables differ.
+fn find_one(
+    z: &[u64],
+    columns: usize,
+    differ: bool,
+    keeps: Condition,
+    wants: Condition,
+    ways: &mut [u64],
+    x: &mut [u64],
+    y: &mut [u64],
+    v: &mut [u64],
+    w: &mut [u64],
+    out: &mut [u64],
+) -> u8
+    requires { ⌜ FindsOne columns (now z) keeps wants (now ways) (now x) (now y) (now v) (now w) (now out) ⌝ }
+    ensures kind { λ r. ⌜ r ≡ oneKind (zoneIn (columns + 1) (now (z .entry))) differ (conditionOf keeps) (conditionOf wants) ⌝ }
+    ensures zone { λ _. ⌜ Lies (columns + 1) (oneFound (zoneIn (columns + 1) (now (z .entry))) differ (conditionOf keeps) (conditionOf wants)) (now (out .exit)) ⌝ }
+{
+    if differ {
+        if conditions::met(z, columns, wants, &mut *out) {
             return 1;
         }
     }
-    let choices = conditions::choices_of(extract);
-    if search::outside(&boxed, n, query, choices, &mut *out) {
+    let k = breaking::put_choices(keeps, &mut *ways);
+    let always = conditions::always();
+    if search::outside(
+        z,
+        columns,
+        always,
+        wants,
+        &*ways,
+        k,
+        &mut *x,
+        &mut *y,
+        &mut *v,
+        &mut *w,
+        &mut *out,
+    ) {
         return 2;
     }
     0
 }
 
-// Kind 3 or 4, and the two rows as one that show it, or 0. Kind 2 has been ruled out: a row that the query wants is one that the extract keeps.
-fn find_two(job: Job, rows: TwinRows, out: &mut [u64; zone::SIZE]) -> u8
-    requires { ⌜ Finds job rows (now out) ⌝ }
-    ensures kind { λ r. ⌜ r ≡ twoKind (meaningOf job) ⌝ }
-    ensures zone { λ _. ⌜ now (out .exit) ≡ laidIf (now (out .entry)) (twoFound (meaningOf job)) ⌝ }
+// Kind 3 or 4, and two rows as one of a zone that show it, or 0. Kind 2 has been ruled out: a row that the query wants is one that the
+// extract keeps, so it is asked of the second row alone.
+fn find_two(
+    z: &[u64],
+    columns: usize,
+    keeps: Condition,
+    wants: Condition,
+    others: Condition,
+    cs: &[u8],
+    twin: [u8; Job::COLUMNS],
+    ways: &mut [u64],
+    x: &mut [u64],
+    y: &mut [u64],
+    v: &mut [u64],
+    w: &mut [u64],
+    out: &mut [u64],
+) -> u8
+    requires { ⌜ FindsTwo columns (now z) keeps wants others (now cs) twin (now ways) (now x) (now y) (now v) (now w) (now out) ⌝ }
+    ensures kind { λ r. ⌜ r ≡ twoKind (zoneIn (columns + 1) (now (z .entry))) (conditionOf keeps) (conditionOf wants) (conditionOf others) (someApart (at twin) (now (cs .entry))) ⌝ }
+    ensures zone { λ _. ⌜ Lies (columns + 1) (twoFound (zoneIn (columns + 1) (now (z .entry))) (conditionOf keeps) (conditionOf wants) (conditionOf others) (someApart (at twin) (now (cs .entry)))) (now (out .exit)) ⌝ }
 {
-    let m = rows.columns;
-    let lo = rows.lo;
-    let hi = rows.hi;
-    let twin = rows.twin;
-    let query = job.query;
-    let width = query.width;
-    let outputs = query.outputs;
-    let keeps = twins::rename(job.extract, twin);
-    let wants = twins::rename(query, twin);
-    let mut boxed = [0u64; zone::SIZE];
-    solver::set_bounds(&mut boxed, &lo[..m], &hi[..m]);
-    let choices = conditions::choices_of(wants);
-    if twins::outside_in(&boxed, m, keeps, query, choices, &mut *out) {
+    let k = breaking::put_choices(others, &mut *ways);
+    if search::outside(
+        z,
+        columns,
+        keeps,
+        wants,
+        &*ways,
+        k,
+        &mut *x,
+        &mut *y,
+        &mut *v,
+        &mut *w,
+        &mut *out,
+    ) {
         return 3;
     }
-    if twins::differ_in_both(&boxed, m, query, wants, &outputs[..width], twin, &mut *out) {
+    if twins::differ(z, columns, wants, others, cs, twin, &mut *out) {
         return 4;
     }
     0
 }
 
-// The kind, and the rows that show it.
-fn find(job: Job, rows: TwinRows, out: &mut [u64; zone::SIZE]) -> u8
-    requires { ⌜ Finds job rows (now out) ⌝ }
-    ensures kind { λ r. ⌜ r ≡ foundKind (meaningOf job) ⌝ }
-    ensures zone { λ _. ⌜ now (out .exit) ≡ laidIf (now (out .entry)) (finding (meaningOf job)) ⌝ }
-{
-    let kind = find_one(job, rows, &mut *out);
-    if kind != 0 {
-        return kind;
-    }
-    find_two(job, rows, &mut *out)
-}
-
 // ---- The verdict
-
-// Marks the columns that aren't fixed.
-fn unfixed(job: Job, rows: TwinRows) -> [bool; Job::COLUMNS]
-    requires { ⌜ Lists job rows ⌝ }
-    ensures { λ r. ⌜ r ≡ marked (job .width) (unfixedIn (meaningOf job)) (replicate 16 false) ⌝ }
-{
-    let n = job.width;
-    let m = rows.columns;
-    let lo = rows.lo;
-    let hi = rows.hi;
-    let twin = rows.twin;
-    let extract = job.extract;
-    let keeps = twins::rename(extract, twin);
-    let mut boxed = [0u64; zone::SIZE];
-    solver::set_bounds(&mut boxed, &lo[..m], &hi[..m]);
-    let mut marks = [false; Job::COLUMNS];
-    twins::mark_in_both(&boxed, m, extract, keeps, n, twin, &mut marks);
-    marks
-}
 
 // The kind, the listing, and the two databases.
 pub struct Verdict {
@@ -355,24 +131,145 @@ pub struct Verdict {
     pub second: Database,
 }
 
-pub fn decide(job: Job) -> Verdict
-    requires { ⌜ Given job ⌝ }
-    ensures kind { λ r. ⌜ r .kind ≡ kindOf (meaningOf job) ⌝ }
-    ensures listing { λ r. ⌜ r .listing ≡ listingRecord job ⌝ }
-    ensures databases { λ r. ⌜ HandsOut job (r .first) (r .second) ⌝ }
+// Decides in lent arrays, each of which holds a zone of two rows as one.
+fn decide_in(
+    k: Columns,
+    extract: Expression,
+    query: Expression,
+    rows: TwinRows,
+    b: &mut [u64],
+    x: &mut [u64],
+    y: &mut [u64],
+    v: &mut [u64],
+    w: &mut [u64],
+    out: &mut [u64],
+) -> Verdict
+    requires { ⌜ DecidesIn k extract query rows (now b) (now x) (now y) (now v) (now w) (now out) ⌝ }
+    ensures kind { λ r. ⌜ r .kind ≡ kindOf (jobOf k extract query) ⌝ }
+    ensures listing { λ r. ⌜ r .listing ≡ listingRecord k extract query ⌝ }
+    ensures databases { λ r. ⌜ HandsOut k extract query (r .first) (r .second) ⌝ }
 {
-    let rows = twins::twins_of(job);
-    let mut found = [0u64; zone::SIZE];
-    let kind = find(job, rows, &mut found);
-    let pair = pair_of(job, rows, kind, &found);
+    let n = k.width;
+    let m = rows.columns;
+    let twin = rows.twin;
+    let keeps = extract.condition;
+    let wants = query.condition;
+    let outputs = query.outputs;
+    let width = query.width;
+    let keeps_other = twins::rename(keeps, twin);
+    let mut ways = [0u64; breaking::WAYS];
+    lay_rows(rows, n, &mut *b);
+    let differ = databases::tables_differ(extract, query);
+    let one = find_one(
+        &*b,
+        n,
+        differ,
+        keeps,
+        wants,
+        &mut ways,
+        &mut *x,
+        &mut *y,
+        &mut *v,
+        &mut *w,
+        &mut *out,
+    );
+    lay_rows(rows, m, &mut *b);
+    let mut kind = one;
+    if one == 0 {
+        let wants_other = twins::rename(wants, twin);
+        kind = find_two(
+            &*b,
+            m,
+            keeps_other,
+            wants,
+            wants_other,
+            &outputs[..width],
+            twin,
+            &mut ways,
+            &mut *x,
+            &mut *y,
+            &mut *v,
+            &mut *w,
+            &mut *out,
+        );
+    }
+    let pair = databases::pair_of(k, extract, query, rows, kind, &*out);
     let first = pair.first;
     let second = pair.second;
-    let marks = unfixed(job, rows);
-    let listing = listing_of(job, marks);
+    let mut marks = [false; Job::COLUMNS];
+    twins::mark_pairs(&*b, m, keeps, keeps_other, n, twin, &mut *x, &mut marks);
+    let listing = databases::listing_of(k, extract, marks);
     Verdict {
         kind,
         listing,
         first,
         second,
     }
+}
+
+// With few columns in two rows as one, as nearly always, the arrays are small, since to zero them would take longer than all the rest.
+fn decide_small(k: Columns, extract: Expression, query: Expression, rows: TwinRows) -> Verdict
+    requires { ⌜ Decides k extract query rows × (rows .columns < 13) ⌝ }
+    ensures kind { λ r. ⌜ r .kind ≡ kindOf (jobOf k extract query) ⌝ }
+    ensures listing { λ r. ⌜ r .listing ≡ listingRecord k extract query ⌝ }
+    ensures databases { λ r. ⌜ HandsOut k extract query (r .first) (r .second) ⌝ }
+{
+    let mut b = [0u64; SMALL];
+    let mut x = [0u64; SMALL];
+    let mut y = [0u64; SMALL];
+    let mut v = [0u64; SMALL];
+    let mut w = [0u64; SMALL];
+    let mut out = [0u64; SMALL];
+    decide_in(
+        k,
+        extract,
+        query,
+        rows,
+        &mut b,
+        &mut x,
+        &mut y,
+        &mut v,
+        &mut w,
+        &mut out,
+    )
+}
+
+fn decide_large(k: Columns, extract: Expression, query: Expression, rows: TwinRows) -> Verdict
+    requires { ⌜ Decides k extract query rows ⌝ }
+    ensures kind { λ r. ⌜ r .kind ≡ kindOf (jobOf k extract query) ⌝ }
+    ensures listing { λ r. ⌜ r .listing ≡ listingRecord k extract query ⌝ }
+    ensures databases { λ r. ⌜ HandsOut k extract query (r .first) (r .second) ⌝ }
+{
+    let mut b = [0u64; zone::SIZE];
+    let mut x = [0u64; zone::SIZE];
+    let mut y = [0u64; zone::SIZE];
+    let mut v = [0u64; zone::SIZE];
+    let mut w = [0u64; zone::SIZE];
+    let mut out = [0u64; zone::SIZE];
+    decide_in(
+        k,
+        extract,
+        query,
+        rows,
+        &mut b,
+        &mut x,
+        &mut y,
+        &mut v,
+        &mut w,
+        &mut out,
+    )
+}
+
+pub fn decide(k: Columns, extract: Expression, query: Expression) -> Verdict
+    requires { ⌜ Given k extract query ⌝ }
+    ensures kind { λ r. ⌜ r .kind ≡ kindOf (jobOf k extract query) ⌝ }
+    ensures listing { λ r. ⌜ r .listing ≡ listingRecord k extract query ⌝ }
+    ensures databases { λ r. ⌜ HandsOut k extract query (r .first) (r .second) ⌝ }
+{
+    let outputs = extract.outputs;
+    let rows = twins::twins_of(k, outputs, extract.width);
+    if rows.columns < 13 {
+        return decide_small(k, extract, query, rows);
+    }
+    decide_large(k, extract, query, rows)
 }

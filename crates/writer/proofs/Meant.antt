@@ -8,16 +8,16 @@ use lib.Dec.{eqb}
 use Rattle.base.specs.Lists.{filter, flatMap}
 use Rattle.base.proofs.Lists.{flatMap-append, flatMap-map}
 use Rattle.words.specs.Word.{encoded}
-use Rattle.model.specs.Coded.{numberOfOp}
+use Rattle.words.specs.Compare.{numberOfOp}
 use Rattle.job.specs.declared.Column.{Column}
 use Rattle.job.specs.declared.Comparison.{Comparison}
 use Rattle.job.specs.declared.Clause.{Clause}
 use Rattle.job.specs.declared.Expression.{Expression}
 use Rattle.job.specs.declared.Job.{Job}
-use Rattle.job.specs.Meaning.{comparisonOf, clauseOf, expressionOf, boundsOf, tableIn, tableNumbers, meaningOf}
+use Rattle.job.specs.Meaning.{comparisonOf, clauseOf, expressionOf, boundsOf, tableIn, tableNumbers, jobOf, meaningOf}
 use Rattle.layout.specs.Commands.{startBytes, addColumn, mark, useTable, addOutput, addComparison}
 use Rattle.layout.specs.Writing.{entryBytes, tableEntries, clauseEntries, expressionEntries, entriesOf, jobBytes}
-use Rattle.writer.specs.Parts.{columnsIn, columnIn, tableBytes, tablesBytes, comparisonIn, clauseBytes, clausesBytes, expressionBytes}
+use Rattle.writer.specs.Parts.{columnsIn, columnIn, tableBytes, tablesBytes, comparisonIn, clauseBytes, conditionBytes, expressionBytes}
 
 -- the parts of a record, in order: up to the tables, the extract, the query, the end
 abbrev pub toTables : Job → List ℕ
@@ -33,7 +33,8 @@ unfoldable pub recordBytes : Job → List ℕ
 recordBytes r = toQuery r ++ 0xFF ∷ []
 
 -- ---- bytes of entries
-flat-two : {A B : Type 0} (f : A → List B) (xs ys : List A) {us vs : List B} → flatMap xs f ≡ us → flatMap ys f ≡ vs → flatMap (xs ++ ys) f ≡ us ++ vs
+flat-two : {A B : Type 0} (f : A → List B) (xs ys : List A) {us vs : List B} → flatMap xs f ≡ us → flatMap ys f ≡ vs
+    → flatMap (xs ++ ys) f ≡ us ++ vs
 flat-two f xs ys d e = flatMap-append xs ys f ∙ rw (d, e)
 
 -- entries for each element, and the bytes of each entry
@@ -43,7 +44,8 @@ flat-parts f g h k e [] = refl
 flat-parts f g h k e (x ∷ xs) = flat-two h (g (f x)) (flatMap (map f xs) g) (e x) (flat-parts f g h k e xs)
 
 -- ---- part by part
-columns-meant : (t : ℕ) (cs : List Column) → flatMap (map (λ b. addColumn (b .lo) (b .hi)) (tableIn cs t)) entryBytes ≡ flatMap cs (columnIn t)
+columns-meant : (t : ℕ) (cs : List Column)
+    → flatMap (map (λ b. addColumn (b .lo) (b .hi)) (tableIn cs t)) entryBytes ≡ flatMap cs (columnIn t)
 columns-meant t [] = refl
 columns-meant t (c ∷ cs) = go (eqb (c .table) t) (columns-meant t cs)
   where
@@ -61,7 +63,8 @@ unfolding tableBytes
 table-meant cs t = ap (λ (l : List ℕ). 0x10 ∷ l) (columns-meant t cs)
 
 comparisons-meant : (ks : List Comparison)
-    → flatMap (map (λ k. addComparison (numberOfOp (k .op)) (k .left) (k .right)) (map comparisonOf ks)) entryBytes ≡ flatMap ks comparisonIn
+    → flatMap (map (λ k. addComparison (numberOfOp (k .op)) (k .left) (k .right)) (map comparisonOf ks)) entryBytes
+    ≡ flatMap ks comparisonIn
 comparisons-meant [] = refl
 comparisons-meant (k ∷ ks) = ap (λ (l : List ℕ). comparisonIn k ++ l) (comparisons-meant ks)
 
@@ -70,17 +73,18 @@ unfolding clauseBytes
 clause-meant c = ap (λ (l : List ℕ). 0x40 ∷ l) (comparisons-meant (take (c .size) (c .comparisons)))
 
 expression-meant : (e : Expression) → flatMap (expressionEntries (expressionOf e)) entryBytes ≡ expressionBytes e
-unfolding expressionEntries expressionOf expressionBytes clausesBytes
+unfolding expressionEntries expressionOf expressionBytes conditionBytes
 expression-meant e =
     let used = take (e .tables) (e .used) in
     let outputs = take (e .width) (e .outputs) in
-    let clauses = take (e .size) (e .clauses) in
+    let clauses = take (e .condition .size) (e .condition .clauses) in
     flat-two entryBytes (map useTable used ++ map addOutput outputs) (flatMap (map clauseOf clauses) clauseEntries)
-    (flat-two entryBytes (map useTable used) (map addOutput outputs) (flatMap-map useTable entryBytes used) (flatMap-map addOutput entryBytes outputs))
+    (flat-two entryBytes (map useTable used) (map addOutput outputs) (flatMap-map useTable entryBytes used)
+    (flatMap-map addOutput entryBytes outputs))
     (flat-parts clauseOf clauseEntries entryBytes clauseBytes clause-meant clauses)
 
 pub meant : (r : Job) → jobBytes (meaningOf r) ≡ recordBytes r
-unfolding jobBytes entriesOf meaningOf recordBytes tablesBytes
+unfolding jobBytes entriesOf jobOf recordBytes tablesBytes
 meant r =
     let cs = columnsIn r in
     let ts = take (r .tables) tableNumbers in

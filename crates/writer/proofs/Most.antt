@@ -12,18 +12,18 @@ use Rattle.base.specs.Lists.{flatMap}
 use Rattle.base.specs.Bytes.{Room, Puts}
 use Rattle.base.proofs.Bytes.{put-first, room-first, room-next}
 use Rattle.words.specs.Word.{encoded}
-use Rattle.model.specs.Coded.{opAt, numberOfOp, sideOf}
+use Rattle.words.specs.Compare.{opAt, numberOfOp}
 use Rattle.job.specs.declared.Column.{Column}
 use Rattle.job.specs.declared.Comparison.{Comparison}
 use Rattle.job.specs.declared.Clause.{Clause}
 use Rattle.job.specs.declared.Expression.{Expression}
 use Rattle.job.specs.declared.Job.{Job}
-use Rattle.job.specs.Meaning.{tableNumbers, meaningOf}
+use Rattle.job.specs.Meaning.{sideOf, tableNumbers, meaningOf}
 use Rattle.layout.specs.Commands.{startBytes}
 use Rattle.layout.specs.Writing.{jobBytes}
 use Rattle.layout.proofs.Enough.{side-most}
 use Rattle.writer.specs.Parts.{columnsIn, columnIn, tableBytes, tablesBytes, eachBytes, usedBytes, outputsBytes}
-use Rattle.writer.specs.Parts.{comparisonIn, clauseBytes, clausesBytes, expressionBytes}
+use Rattle.writer.specs.Parts.{comparisonIn, clauseBytes, conditionBytes, expressionBytes}
 use Rattle.job.proofs.Records.{Sixes, SizedExpression, Sized}
 use Rattle.writer.proofs.Meant.{toTables, toExtract, toQuery, recordBytes, meant}
 
@@ -50,11 +50,12 @@ one-table (suc (suc zero)) b h = omega arith
 one-table (suc (suc (suc zero))) b h = omega arith
 one-table (suc (suc (suc (suc t)))) b h =
     let n = suc (suc (suc (suc t))) in
-    rw (ne-eqb n 0 (λ e. omega arith), ne-eqb n 1 (λ e. omega arith), ne-eqb n 2 (λ e. omega arith), ne-eqb n 3 (λ e. omega arith)) (omega arith)
+    rw (ne-eqb n 0 (λ e. omega arith), ne-eqb n 1 (λ e. omega arith), ne-eqb n 2 (λ e. omega arith), ne-eqb n 3 (λ e. omega arith))
+    (omega arith)
 
 columns-most : (cs : List Column)
-    → length (flatMap cs (columnIn 0)) + length (flatMap cs (columnIn 1)) + length (flatMap cs (columnIn 2)) + length (flatMap cs (columnIn 3))
-    ≤ length cs * 9
+    → length (flatMap cs (columnIn 0)) + length (flatMap cs (columnIn 1)) + length (flatMap cs (columnIn 2))
+    + length (flatMap cs (columnIn 3)) ≤ length cs * 9
 columns-most [] = omega arith
 columns-most (c ∷ cs) =
     rw (
@@ -97,14 +98,14 @@ pairs-most : (b n : ℕ) (l : List ℕ) → length (eachBytes b (take n l)) ≤ 
 pairs-most b n l = omega (arith, each-most (λ x. b ∷ x ∷ []) 2 (λ x. omega arith) (take n l), length-take n l)
 
 expression-most : (e : Expression) → SizedExpression e → length (expressionBytes e) ≤ 212
-unfolding expressionBytes clausesBytes
+unfolding expressionBytes conditionBytes
 expression-most e s =
-    rw (length-append (usedBytes e ++ outputsBytes e) (clausesBytes e), length-append (usedBytes e) (outputsBytes e))
+    rw (length-append (usedBytes e ++ outputsBytes e) (conditionBytes (e .condition)), length-append (usedBytes e) (outputsBytes e))
     (omega (
       arith,
       pairs-most 0x30 (e .tables) (e .used),
       pairs-most 0x31 (e .width) (e .outputs),
-      clauses-most (e .size) (e .clauses) (s .comparisons),
+      clauses-most (e .condition .size) (e .condition .clauses) (s .condition .comparisons),
     ))
 
 most : (r : Job) → Sized r → length (recordBytes r) ≤ 579

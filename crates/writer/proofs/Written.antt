@@ -1,19 +1,18 @@
 -- The bytes of a record's parts, by the tests that the code makes, and the room for them. Assumes nothing.
-use mathlib.Core.Path.{_≡_, refl}
+use mathlib.Core.Path.{_≡_}
 use mathlib.Core.List.{List, [], _∷_, _++_}
-use Prim.Native.Nat.{ℕ, zero, suc, _+_, _-_, _≤_, _<_}
+use Prim.Native.Nat.{ℕ, _+_, _-_, _≤_}
 use native.Mathlib.Omega.{arith}
-use lib.ListN.{length, getD}
+use lib.ListN.{length}
 use borrow.Author.Tests.{eq-eqb, ne-eqb}
 use Rattle.base.specs.Bytes.{Room, Puts}
 use Rattle.base.proofs.Bytes.{room-first, room-next}
 use Rattle.words.specs.Word.{encoded}
-use Rattle.model.specs.Coded.{opAt, numberOfOp}
+use Rattle.words.specs.Compare.{opAt, numberOfOp}
 use Rattle.job.specs.declared.Column.{Column}
 use Rattle.job.specs.declared.Comparison.{Comparison}
 use Rattle.job.specs.declared.Expression.{Expression}
-use Rattle.job.specs.Meaning.{tableNumbers}
-use Rattle.writer.specs.Parts.{columnIn, usedBytes, outputsBytes, comparisonIn, clausesBytes, expressionBytes}
+use Rattle.writer.specs.Parts.{columnIn, usedBytes, outputsBytes, comparisonIn, conditionBytes, expressionBytes}
 
 -- ---- ops
 pub op-above : (n : ℕ) → 4 ≤ n → 4 ≡ numberOfOp (opAt n)
@@ -48,7 +47,7 @@ room-column k n r = (rw (with-column k n) at r) .room
 module _ (b : ℕ) (e : Expression) {old : List ℕ} {at : ℕ} (all : Room old at (b ∷ expressionBytes e)) where
   room-to-outputs : Room old at (b ∷ usedBytes e ++ outputsBytes e)
   unfolding expressionBytes
-  room-to-outputs = room-first (b ∷ usedBytes e ++ outputsBytes e) (clausesBytes e) all
+  room-to-outputs = room-first (b ∷ usedBytes e ++ outputsBytes e) (conditionBytes (e .condition)) all
 
   module _ {new : List ℕ} {p : ℕ} where
     pub room-used : Puts old new at p (b ∷ []) → Room new p (usedBytes e)
@@ -57,6 +56,6 @@ module _ (b : ℕ) (e : Expression) {old : List ℕ} {at : ℕ} (all : Room old 
     pub room-outputs : Puts old new at p (b ∷ usedBytes e) → Room new p (outputsBytes e)
     room-outputs = room-next (b ∷ usedBytes e) (outputsBytes e) room-to-outputs
 
-    pub room-clauses : Puts old new at p (b ∷ usedBytes e ++ outputsBytes e) → Room new p (clausesBytes e)
+    pub room-condition : Puts old new at p (b ∷ usedBytes e ++ outputsBytes e) → Room new p (conditionBytes (e .condition))
     unfolding expressionBytes
-    room-clauses = room-next (b ∷ usedBytes e ++ outputsBytes e) (clausesBytes e) all
+    room-condition = room-next (b ∷ usedBytes e ++ outputsBytes e) (conditionBytes (e .condition)) all

@@ -6,13 +6,14 @@ use lib.ListN.{take}
 use lib.Dec.{eqb}
 use Rattle.base.specs.Lists.{flatMap}
 use Rattle.words.specs.Word.{encoded}
-use Rattle.model.specs.Coded.{opAt, numberOfOp, sideOf}
+use Rattle.words.specs.Compare.{opAt, numberOfOp}
 use Rattle.job.specs.declared.Column.{Column}
 use Rattle.job.specs.declared.Comparison.{Comparison}
 use Rattle.job.specs.declared.Clause.{Clause}
+use Rattle.job.specs.declared.Condition.{Condition}
 use Rattle.job.specs.declared.Expression.{Expression}
 use Rattle.job.specs.declared.Job.{Job}
-use Rattle.job.specs.Meaning.{tableNumbers}
+use Rattle.job.specs.Meaning.{sideOf, tableNumbers}
 use Rattle.layout.specs.Writing.{comparisonBytes}
 
 abbrev pub columnsIn : Job → List Column
@@ -38,8 +39,8 @@ comparisonIn k = comparisonBytes (numberOfOp (opAt (k .op))) (k .left) (sideOf (
 unfoldable pub clauseBytes : Clause → List ℕ
 clauseBytes c = 0x40 ∷ flatMap (take (c .size) (c .comparisons)) comparisonIn
 
-unfoldable pub clausesBytes : Expression → List ℕ
-clausesBytes e = flatMap (take (e .size) (e .clauses)) clauseBytes
+unfoldable pub conditionBytes : Condition → List ℕ
+conditionBytes k = flatMap (take (k .size) (k .clauses)) clauseBytes
 
 abbrev pub usedBytes : Expression → List ℕ
 usedBytes e = eachBytes 0x30 (take (e .tables) (e .used))
@@ -48,4 +49,4 @@ abbrev pub outputsBytes : Expression → List ℕ
 outputsBytes e = eachBytes 0x31 (take (e .width) (e .outputs))
 
 unfoldable pub expressionBytes : Expression → List ℕ
-expressionBytes e = usedBytes e ++ outputsBytes e ++ clausesBytes e
+expressionBytes e = usedBytes e ++ outputsBytes e ++ conditionBytes (e .condition)

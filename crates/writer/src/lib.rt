@@ -5,15 +5,16 @@ ghost use Prim.Native.Nat.{_≤_, min};
 ghost use lib.ListN.{length, take, drop};
 ghost use Rattle.base.specs.Bytes.{Room, Puts};
 ghost use Rattle.words.specs.Word.{encoded};
-ghost use Rattle.model.specs.Coded.{opAt, numberOfOp};
+ghost use Rattle.words.specs.Compare.{opAt, numberOfOp};
 ghost use Rattle.job.specs.Meaning.{meaningOf};
 ghost use Rattle.layout.specs.Commands.{startBytes};
 ghost use Rattle.layout.specs.Writing.{jobBytes};
 ghost use Rattle.writer.specs.Parts.{columnsIn, columnIn, tableBytes, tablesBytes};
-ghost use Rattle.writer.specs.Parts.{eachBytes, comparisonIn, clauseBytes, clausesBytes, expressionBytes};
+ghost use Rattle.writer.specs.Parts.{eachBytes, comparisonIn, clauseBytes, conditionBytes, expressionBytes};
 use job::Clause;
 use job::Column;
 use job::Comparison;
+use job::Condition;
 use job::Expression;
 use job::Job;
 
@@ -150,15 +151,15 @@ fn put_clause(out: &mut [u8], at: usize, c: Clause) -> usize
     p
 }
 
-fn put_clauses(out: &mut [u8], at: usize, e: Expression) -> usize
-    requires { ⌜ Room (now out) at (clausesBytes e) ⌝ }
-    ensures { λ r. ⌜ Puts (now (out .entry)) (now (out .exit)) at r (clausesBytes e) ⌝ }
+fn put_condition(out: &mut [u8], at: usize, k: Condition) -> usize
+    requires { ⌜ Room (now out) at (conditionBytes k) ⌝ }
+    ensures { λ r. ⌜ Puts (now (out .entry)) (now (out .exit)) at r (conditionBytes k) ⌝ }
 {
-    let n = least(e.size, Job::CLAUSES);
+    let n = least(k.size, Job::CLAUSES);
     let mut p = at;
     let mut q = 0;
     while q < n {
-        p = put_clause(out, p, e.clauses[q]);
+        p = put_clause(out, p, k.clauses[q]);
         q += 1;
     }
     p
@@ -174,7 +175,7 @@ fn put_expression(out: &mut [u8], at: usize, b: u8, e: Expression) -> usize
     let p = base::put(out, at, b);
     let q = put_each(out, p, 0x30, &used, e.tables);
     let s = put_each(out, q, 0x31, &outputs, e.width);
-    put_clauses(out, s, e)
+    put_condition(out, s, e.condition)
 }
 
 // The bytes of the job that a record stands for, and how many they are. Any record stands for one.

@@ -35,13 +35,15 @@ enter-spec =
     (λ c. search needs)
     (λ c κs. let s = c .before .before .before in let r = ready s (c .enum-told9 .given .1) in (r .0, r .1, s .pre .2))
     (λ c. search needs)
-    (λ c. rw (c .enum-told .given .1) (let r = ready (c .before .before .before) (c .enum-told .given .1) .0 in add-table (r .held) (r .room)))
+    (λ c.
+    rw (c .enum-told .given .1) (let r = ready (c .before .before .before) (c .enum-told .given .1) .0 in add-table (r .held) (r .room)))
     (λ c. rw (c .before .enum-told2 .given .1) (c .next-column .ensures))
     (λ c. rw (c .enum-told3 .given .1) (add-mark (c .before .before .before .pre .0 .held) 0x20))
     (λ c. rw (c .enum-told4 .given .1) (add-mark (c .before .before .before .pre .0 .held) 0x21))
     (λ c. rw (c .before .enum-told5 .given .1) (c .table-used .ensures))
     (λ c. rw (c .before .enum-told6 .given .1) (c .output-column .ensures))
-    (λ c. rw (c .enum-told7 .given .1) (let r = ready (c .before .before .before) (c .enum-told7 .given .1) .0 in add-clause (r .held) (r .room)))
+    (λ c.
+    rw (c .enum-told7 .given .1) (let r = ready (c .before .before .before) (c .enum-told7 .given .1) .0 in add-clause (r .held) (r .room)))
     (λ c. rw (c .before .enum-told8 .given .1) (c .number-compared .ensures))
     (λ c. rw (c .before .enum-told9 .given .1) (c .column-compared .ensures))
     (λ c. rw (c .enum-told10 .given .1) (add-mark (c .before .before .before .pre .0 .held) 0xFF)))

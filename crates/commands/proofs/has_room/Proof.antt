@@ -1,9 +1,9 @@
 -- `commands::has_room` meets its contract. Assumes nothing.
-use mathlib.Core.Path.{_∙_, ap}
+use mathlib.Core.Path.{ap}
 use Prim.Native.Nat.{ℕ}
 use lib.Dec.{ltb}
 use borrow.Author.Needs.{needs}
-use Rattle.commands.proofs.Keeping.{tables-held, width-held, size-held, size-small, last-size-held}
+use Rattle.commands.proofs.Keeping.{tables-held, width-held, size-held, comparisons-held}
 use Rattle.commands.proofs.has_room.Statement.{statement}
 use Rattle.commands.proofs.has_room.Tie as tie
 
@@ -19,9 +19,7 @@ has-room-spec =
     (λ c. search needs)
     (λ c. search needs)
     (λ c. search needs)
-    (λ c κs. size-small (c .before .before .pre))
     (λ c. search needs)
-    (λ c κs. size-small (c .before .before .pre))
     (λ c. search needs)
     (λ c. rw (c .before .enum-told .given .1) (ap (λ (n : ℕ). ltb n 4) (tables-held (c .before .before .before .pre))))
     (λ c. rw (c .before .enum-told2 .given .1) (ap (λ (n : ℕ). ltb n 16) (width-held (c .before .before .before .pre))))
@@ -30,12 +28,6 @@ has-room-spec =
     (λ c. rw (c .enum-told5 .given .1))
     (λ c. rw (c .enum-told6 .given .1))
     (λ c. rw (c .before .enum-told7 .given .1) (ap (λ (n : ℕ). ltb n 4) (size-held (c .before .before .before .pre))))
-    (λ c.
-    let pre = c .before .before .before .pre in
-    let enum-told8 = c .before .enum-told8 in
-    rw (enum-told8 .given .1) (ap (λ (n : ℕ). ltb n 6) (c .last-size .ensures ∙ last-size-held pre)))
-    (λ c.
-    let pre = c .before .before .before .pre in
-    let enum-told9 = c .before .enum-told9 in
-    rw (enum-told9 .given .1) (ap (λ (n : ℕ). ltb n 6) (c .last-size2 .ensures ∙ last-size-held pre)))
+    (λ c. rw (c .before .enum-told8 .given .1) (ap (λ (n : ℕ). ltb n 6) (comparisons-held (c .before .before .before .pre))))
+    (λ c. rw (c .before .enum-told9 .given .1) (ap (λ (n : ℕ). ltb n 6) (comparisons-held (c .before .before .before .pre))))
     (λ c. rw (c .enum-told10 .given .1)))

@@ -11,4 +11,4 @@ is-above-spec =
     (λ c. rw (eq-eqb _ _ (c .if1 .taken)))
     (λ c. search needs)
     (λ c. search needs)
-    (λ c. rw (ne-eqb _ _ (c .before .if1 .left))))
+    (λ c. rw (ne-eqb _ _ (c .before .before .if1 .left))))

@@ -10,4 +10,4 @@ is-ending-spec =
     (tie.spec
     (λ c κs. search needs)
     (λ c. rw (eq-eqb _ _ (c .if1 .taken)))
-    (λ c. rw (ne-eqb _ _ (c .before .if1 .left)) (c .is-in-clause .ensures)))
+    (λ c. rw (ne-eqb _ _ (c .before .if1 .left)) (c .is-in-condition .ensures)))

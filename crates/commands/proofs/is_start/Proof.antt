@@ -11,6 +11,7 @@ is-start-spec =
     tie.close
     (tie.spec
     (λ c. sym (starts-short (c .before .before .before .args .s .now) (c .if1 .taken)))
-    (λ c. let args = c .before .before .before .before .before .args in sym (length-take-le 4 (args .s .now) (c .before .before .if1 .left)))
+    (λ c.
+    let args = c .before .before .before .before .before .args in sym (length-take-le 4 (args .s .now) (c .before .before .if1 .left)))
     (λ c κs. let args = c .before .before .before .before .before .args in length-take-le 4 (args .s .now) (c .before .before .if1 .left))
     (λ c. search needs))

@@ -17,7 +17,8 @@ start-of c = c .before .before .before .before
 
 answered : (c : tie.After-are-bounds)
     → c .are-bounds .result
-    ≡ boundsFit (valueAt 4 (start-of c .args .s .now) (start-of c .args .cur .at + 1)) (valueAt 4 (start-of c .args .s .now) (start-of c .args .cur .at + 5))
+    ≡ boundsFit (valueAt 4 (start-of c .args .s .now) (start-of c .args .cur .at + 1))
+    (valueAt 4 (start-of c .args .s .now) (start-of c .args .cur .at + 5))
 answered c =
     let low = c .before .before .read in
     let high = c .before .read2 in

@@ -56,5 +56,6 @@ number-compared-spec =
     let c1 = c .before .before .before in
     let s = c1 .before .before .before .before .before .before in
     let low = c1 .before .before .before .before .read in
-    add-number (s .pre .0 .held) (s .pre .0 .in-order) (s .pre .0 .room) _ _ _ _ (toZ-ofZ (sfits-of (low .ok)) ∙ low .ensures) (ranged (c1 .before))
+    add-number (s .pre .0 .held) (s .pre .0 .in-order) (s .pre .0 .room) _ _ _ _ (toZ-ofZ (sfits-of (low .ok)) ∙ low .ensures)
+    (ranged (c1 .before))
     (known c1) (passed (c .before .is-in-scope .ensures) (c .if3 .left))))

@@ -30,28 +30,19 @@ returns-4 c =
     (and-passes (c .before .before .before .before .before .before .before .before .before .before .same-bytes .ensures) (c .before .before .before .before .before .before .before .before .before .if2 .left)
     (rw (eq-eqb _ _ (c .before .before .before .before .before .before .before .before .if3 .left)) (and-fails _ (c .before .same-bytes2 .ensures) (c .if4 .taken))))
 
+same-condition-requires : tie.Need-same-condition-requires
+same-condition-requires c κs = search needs
+
 returns-5 : tie.Need-returns-5
 unfolding sameExpression
 returns-5 c =
-    rw (eq-eqb _ _ (c .before .before .before .before .before .before .before .before .before .before .before .before .before .before .before .before .before .before .if1 .left))
-    (and-passes (c .before .before .before .before .before .before .before .before .before .before .before .same-bytes .ensures) (c .before .before .before .before .before .before .before .before .before .before .if2 .left)
-    (rw (eq-eqb _ _ (c .before .before .before .before .before .before .before .before .before .if3 .left))
-    (and-passes (c .before .before .same-bytes2 .ensures) (c .before .if4 .left)
-    (rw (ne-eqb _ _ (c .if5 .taken))))))
-
-same-clauses-requires : tie.Need-same-clauses-requires
-same-clauses-requires c κs = search needs
-
-returns-6 : tie.Need-returns-6
-unfolding sameExpression
-returns-6 c =
-    rw (eq-eqb _ _ (c .before .before .before .before .before .before .before .before .before .before .before .before .before .before .before .before .before .before .before .if1 .left))
-    (and-passes (c .before .before .before .before .before .before .before .before .before .before .before .before .same-bytes .ensures) (c .before .before .before .before .before .before .before .before .before .before .before .if2 .left)
-    (rw (eq-eqb _ _ (c .before .before .before .before .before .before .before .before .before .before .if3 .left))
-    (and-passes (c .before .before .before .same-bytes2 .ensures) (c .before .before .if4 .left)
-    (rw (eq-eqb _ _ (c .before .if5 .left)) (c .same-clauses .ensures)))))
+    rw (eq-eqb _ _ (c .before .before .before .before .before .before .before .before .before .before .before .before .before .before .before .before .before .before .before .before .if1 .left))
+    (and-passes (c .before .before .before .before .before .before .before .before .before .before .before .before .before .same-bytes .ensures) (c .before .before .before .before .before .before .before .before .before .before .before .before .if2 .left)
+    (rw (eq-eqb _ _ (c .before .before .before .before .before .before .before .before .before .before .before .if3 .left))
+    (and-passes (c .before .before .before .before .same-bytes2 .ensures) (c .before .before .before .if4 .left)
+    (c .same-condition .ensures))))
 
 pub same-expression-spec : {M : Type 1} → statement M
 same-expression-spec =
     tie.close
-    (tie.spec returns same-bytes-requires returns-2 returns-3 same-bytes-requires-2 returns-4 returns-5 same-clauses-requires returns-6)
+    (tie.spec returns same-bytes-requires returns-2 returns-3 same-bytes-requires-2 returns-4 same-condition-requires returns-5)

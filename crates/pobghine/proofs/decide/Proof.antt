@@ -11,6 +11,15 @@ decide-spec =
     tie.close (tie.spec
     (λ c κs. search needs)
     (λ c κs. search needs)
-    (λ c. refused-told (c .before .before .before .args .job) (sym (c .before .before .is-read .ensures) ∙ not-true _ (c .before .if1 .taken)) (c .no-database .ensures) (c .no-database .ensures))
-    (λ c κs. is-given (c .before .before .args .job) (sym (c .before .is-read .ensures) ∙ not-false _ (c .if1 .left)))
-    (λ c. decided-told (c .before .before .before .before .before .before .args .job) (sym (c .before .before .before .before .before .is-read .ensures) ∙ not-false _ (c .before .before .before .before .if1 .left)) (c .before .before .before .decide .ensures .0) (c .before .before .before .decide .ensures .1 .0) (c .before .before .before .decide .ensures .1 .1)))
+    (λ c.
+    let judged = c .before .before in
+    refused-told (judged .before .args .job) (sym (judged .is-read .ensures) ∙ not-true _ (c .before .if1 .taken))
+    (c .no-database .ensures) (c .no-database .ensures))
+    (λ c κs.
+    let left = c .before .before .before in
+    is-given (left .before .before .args .job) (sym (left .before .is-read .ensures) ∙ not-false _ (left .if1 .left)))
+    (λ c.
+    let told = c .before .before .before .decide .ensures in
+    let left = c .before .before .before .before .before .before .before in
+    decided-told (left .before .before .args .job) (sym (left .before .is-read .ensures) ∙ not-false _ (left .if1 .left))
+    (told .0) (told .1 .0) (told .1 .1)))

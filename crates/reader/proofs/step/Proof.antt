@@ -22,4 +22,5 @@ step-spec =
     (c1 .before .before .pre .0, c1 .if1 .left, c1 .before .before .pre .1))
     (λ c.
     let c1 = c .before .before .before .before in
-    step-listed _ _ _ _ _ _ (c .take .ensures) (c1 .before .before .if1 .left) (sym (c .before .before .listed .given .1) ∙ c1 .command .ensures)))
+    step-listed _ _ _ _ _ _ (c .take .ensures) (c1 .before .before .if1 .left)
+    (sym (c .before .before .listed .given .1) ∙ c1 .command .ensures)))

@@ -46,7 +46,8 @@ take-spec =
     (λ c κs. search needs)
     (λ c. not-due _ _ _ _ _ _ (failed (c .before .before .before .follows .ensures) (c .if1 .taken)))
     (λ c. no-room _ _ _ _ _ _ (due (c .before)) (failed (c .before .before .before .has-room .ensures) (c .if2 .taken)))
-    (λ c. too-short _ _ _ _ _ _ (due (c .before .before)) (room (c .before)) (failed (answered (c .before .before .before)) (c .if3 .taken)))
+    (λ c.
+    too-short _ _ _ _ _ _ (due (c .before .before)) (room (c .before)) (failed (answered (c .before .before .before)) (c .if3 .taken)))
     (λ c κs.
     let pre = start-of (c .before .before .before) .pre in
     (record { held = pre .0; in-order = due (c .before .before); room = room (c .before) }, leb-true _ _ (there c), pre .2))
@@ -66,9 +67,11 @@ take-spec =
     (λ c.
     let c1 = c .before .before .before .before .before in
     let c2 = c1 .before in
-    went-on _ _ _ _ _ _ _ (c1 .enter .ensures) (due (c2 .before .before)) (room (c2 .before)) (there c2) _ _ _ (c .before .before .before .judged .given .1)
+    went-on _ _ _ _ _ _ _ (c1 .enter .ensures) (due (c2 .before .before)) (room (c2 .before)) (there c2) _ _ _
+    (c .before .before .before .judged .given .1)
     (c .has-begun .ensures) (c2 .before .before .before .before .before .before .operands .ensures))
     (λ c.
     let c1 = c .before .before .before in
     let c2 = c1 .before in
-    broke-off _ _ _ _ _ _ _ (c1 .enter .ensures) (due (c2 .before .before)) (room (c2 .before)) (there c2) _ (c .before .judged2 .given .1)))
+    broke-off _ _ _ _ _ _ _ (c1 .enter .ensures) (due (c2 .before .before)) (room (c2 .before)) (there c2) _
+    (c .before .judged2 .given .1)))

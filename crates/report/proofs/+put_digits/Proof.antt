@@ -50,9 +50,11 @@ pub +put-digits-spec : {M : Type 1} → statement M
     let s = c .before .before .before .before .before .before .before in
     let n = s .args .n in
     let more = c .before .before .before .before .before .if1 .left in
-    room-next (digits (n / 10)) ((48 + n % 10) ∷ []) (rw (digits-more n more) at (s .pre .1)) (c .before .before .before .put-digits .ensures))
+    room-next (digits (n / 10)) ((48 + n % 10) ∷ []) (rw (digits-more n more) at (s .pre .1))
+    (c .before .before .before .put-digits .ensures))
     (λ c. search needs)
     (λ c.
     let s = c .before .before .before .before .before .before .before .before .before .before in
     let more = c .before .before .before .before .before .before .before .before .if1 .left in
-    rw (digits-more (s .args .n) more) (and-then (c .before .before .before .before .before .before .put-digits .ensures) (c .before .before .put2 .ensures)))
+    rw (digits-more (s .args .n) more)
+    (and-then (c .before .before .before .before .before .before .put-digits .ensures) (c .before .before .put2 .ensures)))

@@ -22,8 +22,18 @@ decided-spec =
     (λ c. search needs)
     (λ c. listed (c .before .before .before .before))
     (λ c. sym (length-take-le _ _ (listed (c .before .before .before .before .before))))
-    (λ c κs. (c .before .before .before .before .before .before .before .before .pre .0, rw (length-take-le _ _ (listed (c .before .before .before .before .before .before))) (c .before .before .before .before .before .before .before .before .pre .1)))
+    (λ c κs.
+    let d = c .before .before .before .before .before .before in
+    (d .before .before .pre .0, rw (length-take-le _ _ (listed d)) (d .before .before .pre .1)))
     (λ c. search needs)
-    (λ c. rw (refused-record (c .before .before .before .before .before .before .before .before .before .before .args .job) (c .before .before .before .before .before .before .before .before .decide .ensures .0) (c .before .before .before .before .before .before .before .before .decide .ensures .1 .0) (c .before .before .before .before .before .decision .given .1)) at (c .before .before .refusal .ensures))
+    (λ c.
+    let d = c .before .before .before .before .before .before .before .before in
+    let e = c .before .before .before .before .before .decision .given .1 in
+    rw (refused-record (d .before .before .args .job) (d .decide .ensures .0) (d .decide .ensures .1 .0) e)
+    at (c .before .before .refusal .ensures))
     (λ c. search needs)
-    (λ c. rw (judged-record (c .before .before .before .before .before .before .before .before .before .before .before .args .job) (c .before .before .before .before .before .before .before .before .before .decide .ensures .0) (c .before .before .before .before .before .before .before .before .before .decide .ensures .1 .0) (c .before .before .before .before .before .before .decision2 .given .1)) at (c .before .before .verdict .ensures)))
+    (λ c.
+    let d = c .before .before .before .before .before .before .before .before .before in
+    let e = c .before .before .before .before .before .before .decision2 .given .1 in
+    rw (judged-record (d .before .before .args .job) (d .decide .ensures .0) (d .decide .ensures .1 .0) e)
+    at (c .before .before .verdict .ensures)))

@@ -22,7 +22,9 @@ put-field-requires : tie.Need-put-field-requires Inv-loop μ-loop
 put-field-requires c κs = turn-room (c .before .before .before .before .loop .inv) 0 (omega arith)
 
 loop-again : tie.Need-loop-again Inv-loop μ-loop
-loop-again c = turn-next (c .before .before .before .before .before .before .before .loop .inv) 0 (omega arith) (c .before .before .put-field .ensures)
+loop-again c =
+    let turn = c .before .before .before .before .before .before .before .loop .inv in
+    turn-next turn 0 (omega arith) (c .before .before .put-field .ensures)
 
 same-length : tie.Need-same-length Inv-loop μ-loop
 same-length c = puts-length (c .before .loop .inv .done)

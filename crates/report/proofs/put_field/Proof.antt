@@ -8,7 +8,8 @@ put-bytes-requires : tie.Need-put-bytes-requires
 put-bytes-requires c κs = room-first _ _ (c .before .before .before .pre)
 
 put-digits-requires : tie.Need-put-digits-requires
-put-digits-requires c κs = room-next _ _ (c .before .before .before .before .before .before .before .pre) (c .before .before .before .put-bytes .ensures)
+put-digits-requires c κs =
+    room-next _ _ (c .before .before .before .before .before .before .before .pre) (c .before .before .before .put-bytes .ensures)
 
 returns : tie.Need-returns
 returns c = and-then (c .before .before .before .before .before .before .put-bytes .ensures) (c .before .before .put-digits .ensures)

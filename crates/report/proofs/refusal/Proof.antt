@@ -10,8 +10,11 @@ use Rattle.report.proofs.Rooms.{room-number, room-position, room-refuse
 use Rattle.report.proofs.refusal.Statement.{statement}
 use Rattle.report.proofs.refusal.Tie as tie
 
-fits : (c : tie.After-slice-known) → length (refusalText (c .before .args .number) (c .before .args .at)) ≤ length (c .before .args .out .now)
-fits c = let s = c .before in refusal-fits (s .args .number) (s .args .at) (s .args .out .now) (s .fits .number .fits) (s .fits .at .fits) (omega (arith, s .pre))
+fits : (c : tie.After-slice-known)
+    → length (refusalText (c .before .args .number) (c .before .args .at)) ≤ length (c .before .args .out .now)
+fits c =
+    let s = c .before in
+    refusal-fits (s .args .number) (s .args .at) (s .args .out .now) (s .fits .number .fits) (s .fits .at .fits) (omega (arith, s .pre))
 
 put-field-requires : tie.Need-put-field-requires
 put-field-requires c κs = let s = c .before .before in let a = s .before .args in room-number (a .number) (a .at) (a .out .now) (fits s)
@@ -38,7 +41,8 @@ returns c =
     let c1 = c2 .before .before .before .before .before in
     let s = c1 .before .before .before in
     let a = s .before .args in
-    refusal-put (a .number) (a .at) (a .out .now) (fits s) (and-then (and-then (c1 .put-field .ensures) (c2 .put-field2 .ensures)) (c3 .put .ensures))
+    refusal-put (a .number) (a .at) (a .out .now) (fits s)
+    (and-then (and-then (c1 .put-field .ensures) (c2 .put-field2 .ensures)) (c3 .put .ensures))
 
 pub refusal-spec : {M : Type 1} → statement M
 refusal-spec =

@@ -14,6 +14,10 @@ text-spec =
     (λ c. search needs)
     (λ c κs. (c .before .before .before .before .before .before .pre, rw (c .before .before .before .read .ensures) (few-read _)))
     (λ c. search needs)
-    (λ c. rw (refused-text _ (c .before .before .before .before .before .before .before .read .ensures) (c .before .before .before .before .before .answer .given .1)) at (c .before .before .refusal .ensures))
+    (λ c.
+    let told = c .before .before .before .before .before in
+    rw (refused-text _ (told .before .before .read .ensures) (told .answer .given .1)) at (c .before .before .refusal .ensures))
     (λ c. search needs)
-    (λ c. rw (whole-text _ (c .before .before .before .before .before .before .read .ensures) (c .before .before .before .before .enum-told .given .1)) at (c .before .before .decided .ensures)))
+    (λ c.
+    let told = c .before .before .before .before in
+    rw (whole-text _ (told .before .before .read .ensures) (told .enum-told .given .1)) at (c .before .before .decided .ensures)))

@@ -9,11 +9,18 @@ use Rattle.report.proofs.Rooms.{room-kind, room-word, room-columns, roo
 use Rattle.report.proofs.verdict.Statement.{statement}
 use Rattle.report.proofs.verdict.Tie as tie
 
-fits : (c : tie.After-shared-slice-known) → length (verdictText (c .before .args .kind) (c .before .args .columns .now)) ≤ length (c .before .args .out .now)
-fits c = let s = c .before in verdict-fits (s .args .kind) (s .args .columns .now) (s .args .out .now) (s .fits .kind .fits) (λ i. c .shared-slice-known .given i .fits) (s .pre .1) (s .pre .0)
+fits : (c : tie.After-shared-slice-known)
+    → length (verdictText (c .before .args .kind) (c .before .args .columns .now)) ≤ length (c .before .args .out .now)
+fits c =
+    let s = c .before in
+    verdict-fits (s .args .kind) (s .args .columns .now) (s .args .out .now) (s .fits .kind .fits)
+    (λ i. c .shared-slice-known .given i .fits) (s .pre .1) (s .pre .0)
 
 put-field-requires : tie.Need-put-field-requires
-put-field-requires c κs = let s = c .before .before .before in let a = s .before .args in room-kind (a .kind) (a .columns .now) (a .out .now) (fits s)
+put-field-requires c κs =
+    let s = c .before .before .before in
+    let a = s .before .args in
+    room-kind (a .kind) (a .columns .now) (a .out .now) (fits s)
 
 put-bytes-requires : tie.Need-put-bytes-requires
 put-bytes-requires c κs =
@@ -37,7 +44,8 @@ put-requires c κs =
     let c1 = c2 .before .before .before .before .before in
     let s = c1 .before .before .before .before in
     let a = s .before .args in
-    room-judged (a .kind) (a .columns .now) (a .out .now) (fits s) (and-then (and-then (c1 .put-field .ensures) (c2 .put-bytes .ensures)) (c3 .put-columns .ensures))
+    room-judged (a .kind) (a .columns .now) (a .out .now) (fits s)
+    (and-then (and-then (c1 .put-field .ensures) (c2 .put-bytes .ensures)) (c3 .put-columns .ensures))
 
 returns : tie.Need-returns
 returns c =

@@ -1,49 +1,30 @@
--- `solver::impose` meets its contract: with one constraint, and with the two of "equal". Assumes nothing.
-use mathlib.Core.Path.{sym, _∙_}
+-- `solver::impose` meets its contract. Assumes nothing.
 use borrow.Author.Needs.{needs}
-use borrow.Author.Tests.{not-true, not-false}
-use Rattle.model.specs.Coded.{opAt}
-use Rattle.solver.proofs.Imposing.{first-constrains, second-constrains, next-constrains, one-outcome, first-outcome, second-outcome, both-outcome}
 use Rattle.solver.proofs.impose.Statement.{statement}
 use Rattle.solver.proofs.impose.Tie as tie
+use mathlib.Core.Path.{_≡_, ap, _∙_}
+use lib.IntN.{ℤ}
+use Rattle.words.proofs.Stored.{stored}
+use Rattle.job.specs.Meaning.{sideOf}
+use Rattle.solver.specs.Comparisons.{addedTo}
+use Prim.Native.Nat.{_+_}
+use Rattle.zone.specs.Array.{zoneIn}
+use Rattle.solver.proofs.Coded.{imposed-is, nodes-asked}
+
+-- what is added, with the number as it stands in the record
+added-is : (c : tie.After-added-to) → c .added-to .result ≡ addedTo (sideOf (c .before .before .before .before .before .before .args .k .right) (c .before .before .before .before .before .before .args .k .number))
+added-is c =
+    c .added-to .ensures ∙ ap (λ (v : ℤ). addedTo (sideOf (c .before .before .before .before .before .before .args .k .right) v)) (stored _ (c .before .struct-told .given .1 .1 .1 .0 .1))
 
 pub impose-spec : {M : Type 1} → statement M
 impose-spec =
     tie.close
     (tie.spec
+    (λ c. search needs)
     (λ c κs. search needs)
-    (λ c κs.
-    let b = c .before .before .before .before .before in
-    first-constrains _ _ (opAt (b .before .args .op)) _ _ _ (b .before .pre) _ (b .between .ensures))
-    (λ c.
-    let b = c .before .before .before .before .before .before in
-    one-outcome _ _ (opAt (b .before .args .op)) _ _ _ (b .before .pre) _ (b .between .ensures)
-    (not-true _ (c .before .before .if1 .taken)) _ _ (c .constrain .ensures .0) (c .constrain .ensures .1))
-    (λ c κs.
-    let b = c .before .before .before .before .before in
-    second-constrains _ _ (opAt (b .before .args .op)) _ _ _ (b .before .pre) _ (b .between .ensures))
-    (λ c.
-    let b = c .before .before .before .before .before .before .before in
-    second-outcome _ _ (opAt (b .before .args .op)) _ _ _ (b .before .pre) _ (b .between .ensures)
-    (not-false _ (c .before .before .before .if1 .left)) (sym (c .before .allows .ensures) ∙ not-true _ (c .if2 .taken)))
-    (λ c κs.
-    let b = c .before .before .before .before .before .before .before .before in
-    first-constrains _ _ (opAt (b .before .args .op)) _ _ _ (b .before .pre) _ (b .between .ensures))
-    (λ c.
-    let b = c .before .before .before .before .before .before .before .before .before .before in
-    first-outcome _ _ (opAt (b .before .args .op)) _ _ _ (b .before .pre) _ (b .between .ensures)
-    (not-false _ (c .before .before .before .before .before .before .if1 .left))
-    (sym (c .before .constrain2 .ensures .0) ∙ not-true _ (c .if3 .taken)) _ (c .before .constrain2 .ensures .1))
-    (λ c κs.
-    let b = c .before .before .before .before .before .before .before .before .before .before .before in
-    next-constrains _ _ (opAt (b .before .args .op)) _ _ _ (b .before .pre) _ (b .between .ensures)
-    (not-false _ (c .before .before .before .before .before .before .before .if1 .left))
-    (sym (c .before .before .constrain2 .ensures .0) ∙ not-false _ (c .before .if3 .left)) _ (c .before .before .constrain2 .ensures .1))
-    (λ c.
-    let b = c .before .before .before .before .before .before .before .before .before .before .before .before in
-    both-outcome _ _ (opAt (b .before .args .op)) _ _ _ (b .before .pre) _ (b .between .ensures)
-    (not-false _ (c .before .before .before .before .before .before .before .before .if1 .left))
-    (sym (c .before .before .before .constrain2 .ensures .0) ∙ not-false _ (c .before .before .if3 .left)) _
-    (c .before .before .before .constrain2 .ensures .1)
-    (sym (c .before .before .before .before .before .before .allows .ensures) ∙ not-false _ (c .before .before .before .before .before .if2 .left)) _
-    _ (c .constrain3 .ensures .0) (c .constrain3 .ensures .1)))
+    (λ c. search needs)
+    (λ c κs. search needs)
+    (λ c κs. search needs)
+    (λ c κs. nodes-asked (c .before .before .before .before .before .before .args .k) (c .before .before .before .wide .ensures .0) (c .before .before .wide2 .ensures .0) (added-is c) (c .before .before .before .before .before .before .pre))
+    (λ c. search needs)
+    (λ c. rw (← (imposed-is (c .before .before .before .before .before .before .before .before .before .args .k) (c .before .before .before .before .before .before .wide .ensures .0) (c .before .before .before .before .before .wide2 .ensures .0) (added-is (c .before .before .before)) (zoneIn (c .before .before .before .before .before .before .before .before .before .args .columns + 1) (c .before .before .before .before .before .before .before .before .before .args .d .now)))) (c .before .before .impose-nodes .ensures)))

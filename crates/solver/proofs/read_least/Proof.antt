@@ -13,14 +13,14 @@ use Rattle.solver.proofs.read_least.Statement.{statement}
 use Rattle.solver.proofs.read_least.Tie as tie
 
 -- the least row has a value for each node
-row-size : (c : tie.After-x2) → length (c .before .least .last .1 .1 .0) ≡ length (c .before .before .before .args .row .now) + 1
+row-size : (c : tie.After-x2) → length (c .before .least .last .1 .1 .0) ≡ length (c .before .before .before .before .args .row .now) + 1
 row-size c =
     let s = c .before .before .before in
-    ap (λ (y : List ℕ). length y) (c .before .least .ensures) ∙ least-length _ (s .pre .in-array .closed) ∙ zone-length (length (s .args .row .now) + 1) (s .args .d .now)
+    ap (λ (y : List ℕ). length y) (c .before .least .ensures) ∙ least-length _ (s .before .pre .in-array .closed) ∙ zone-length (length (s .before .args .row .now) + 1) (s .before .args .d .now)
 
 -- it stands in the first places of the array
 part-is : (c : tie.After-x2)
-    → take (length (c .before .before .before .args .row .now) + 1) (c .before .least .last .1 .1 .0 ++ drop (length (c .before .before .before .args .row .now) + 1) (replicate 33 0))
+    → take (length (c .before .before .before .before .args .row .now) + 1) (c .before .least .last .1 .1 .0 ++ drop (length (c .before .before .before .before .args .row .now) + 1) (replicate 33 0))
     ≡ c .before .least .last .1 .1 .0
 part-is c = take-at _ _ _ (row-size c)
 
@@ -30,10 +30,10 @@ read-least-spec =
     (tie.spec
     (λ c. search needs)
     (λ c. search needs)
-    (λ c. sym (length-take-le _ _ (omega (arith, c .before .pre .in-array .small))))
-    (λ c κs. record { in-array = c .before .pre .in-array; size = length-take-le _ _ (omega (arith, c .before .pre .in-array .small)) })
-    (λ c. omega (arith, length-append (c .before .least .last .1 .1 .0) (drop (length (c .before .before .before .args .row .now) + 1) (replicate 33 0)), row-size c))
+    (λ c. sym (length-take-le _ _ (omega (arith, c .before .before .pre .in-array .small))))
+    (λ c κs. record { in-array = c .before .before .pre .in-array; size = length-take-le _ _ (omega (arith, c .before .before .pre .in-array .small)) })
+    (λ c. omega (arith, length-append (c .before .least .last .1 .1 .0) (drop (length (c .before .before .before .before .args .row .now) + 1) (replicate 33 0)), row-size c))
     (λ c. sym (ap (λ (y : List ℕ). length y) (part-is (c .before)) ∙ row-size (c .before)))
-    (λ c κs. rw (part-is (c .before .before), c .before .before .before .least .ensures) (c .before .before .before .before .before .pre .words))
+    (λ c κs. rw (part-is (c .before .before), c .before .before .before .least .ensures) (c .before .before .before .before .before .before .pre .words))
     (λ c. search needs)
     (λ c. c .before .from-nodes .ensures ∙ ap rowOf (part-is (c .before .before .before .before) ∙ c .before .before .before .before .before .least .ensures)))

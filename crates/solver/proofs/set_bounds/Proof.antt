@@ -15,32 +15,32 @@ set-bounds-spec =
     (tie.spec
     (λ c. search needs)
     (λ c. search needs)
-    (λ c. sym (length-take-le _ _ (omega (arith, c .before .pre .small))))
-    (λ c κs. length-take-le _ _ (omega (arith, c .before .pre .small)))
+    (λ c. sym (length-take-le _ _ (omega (arith, c .before .before .pre .small))))
+    (λ c κs. length-take-le _ _ (omega (arith, c .before .before .pre .small)))
     (λ c. search needs)
-    (λ c. sym (length-take-le _ _ (omega (arith, c .before .before .before .before .pre .small))))
+    (λ c. sym (length-take-le _ _ (omega (arith, c .before .before .before .before .before .pre .small))))
     (λ c κs.
-    let u = c .before .before .before .before .pre in
+    let u = c .before .before .before .before .before .pre in
     length-take-le _ _ (omega (arith, u .small)) ∙ ap (λ (n : ℕ). n + 1) (sym (u .same)))
     (λ c.
-    let s = c .before .before .before .before .before .before .before .args in
+    let s = c .before .before .before .before .before .before .before .before .args in
     part-fits (s .lo .now) _ refl _ (drop (length (s .lo .now) + 1) (replicate 33 0)) (c .before .before .before .before .before .to-nodes .ensures .0))
     (λ c.
-    let s = c .before .before .before .before .before .before .before .before .args in
+    let s = c .before .before .before .before .before .before .before .before .before .args in
     part-size (s .lo .now) _ refl _ (drop (length (s .lo .now) + 1) (replicate 33 0)) (c .before .before .before .before .before .before .to-nodes .ensures .0))
     (λ c.
-    let s = c .before .before .before .before .before .before .before .before .args in
-    let u = c .before .before .before .before .before .before .before .before .pre in
+    let s = c .before .before .before .before .before .before .before .before .before .args in
+    let u = c .before .before .before .before .before .before .before .before .before .pre in
     part-fits (s .hi .now) _ (ap (λ (n : ℕ). n + 1) (u .same)) _ (drop (length (s .lo .now) + 1) (replicate 33 0)) (c .before .before .before
     .to-nodes2 .ensures .0))
     (λ c.
-    let s = c .before .before .before .before .before .before .before .before .before .args in
-    let u = c .before .before .before .before .before .before .before .before .before .pre in
+    let s = c .before .before .before .before .before .before .before .before .before .before .args in
+    let u = c .before .before .before .before .before .before .before .before .before .before .pre in
     part-size (s .hi .now) _ (ap (λ (n : ℕ). n + 1) (u .same)) _ (drop (length (s .lo .now) + 1) (replicate 33 0)) (c .before .before .before .before
     .to-nodes2 .ensures .0))
     (λ c κs.
-    let s = c .before .before .before .before .before .before .before .before .before .args in
-    let u = c .before .before .before .before .before .before .before .before .before .pre in
+    let s = c .before .before .before .before .before .before .before .before .before .before .args in
+    let u = c .before .before .before .before .before .before .before .before .before .before .pre in
     rw (
       part-is (s .lo .now) (length _ + 1) refl _ (drop (length _ + 1) (replicate 33 0))
           (c .before .before .before .before .before .before .before .to-nodes .ensures .0),
@@ -48,10 +48,11 @@ set-bounds-spec =
           (ap (λ (n : ℕ). n + 1) (u .same)) _ (drop (length _ + 1) (replicate 33 0)) (c .before .before .before .before .to-nodes2 .ensures .0),
     ) (box-room _
     _ _ u))
+    (λ c. search needs)
     (λ c.
-    let s = c .before .before .before .before .before .before .before .before .before .before .args in
-    let u = c .before .before .before .before .before .before .before .before .before .before .pre in (
-      c .set-box .ensures ∙
-          rw (part-is (s .lo .now) (length _ + 1) refl _ (drop (length _ + 1) (replicate 33 0)) (c .before .before .before .before .before .before .before .before .to-nodes .ensures .0), part-is (s .hi .now) (length _ + 1) (ap (λ (n : ℕ). n + 1) (u .same)) _ (drop (length _ + 1) (replicate 33 0)) (c .before .before .before .before .before .to-nodes2 .ensures .0), box-is _ _ _ u),
-      (c .before .before .before .before .before .before .before .before .to-nodes .ensures .1, c .before .before .before .before .before .to-nodes2 .ensures .1),
+    let s = c .before .before .before .before .before .before .before .before .before .before .before .before .before .args in
+    let u = c .before .before .before .before .before .before .before .before .before .before .before .before .before .pre in (
+      c .before .before .set-box .ensures ∙
+          rw (part-is (s .lo .now) (length _ + 1) refl _ (drop (length _ + 1) (replicate 33 0)) (c .before .before .before .before .before .before .before .before .before .before .to-nodes .ensures .0), part-is (s .hi .now) (length _ + 1) (ap (λ (n : ℕ). n + 1) (u .same)) _ (drop (length _ + 1) (replicate 33 0)) (c .before .before .before .before .before .before .before .to-nodes2 .ensures .0), box-is _ _ _ u),
+      (c .before .before .before .before .before .before .before .before .before .before .to-nodes .ensures .1, c .before .before .before .before .before .before .before .to-nodes2 .ensures .1),
     )))

@@ -17,5 +17,11 @@ timed-decide-spec =
     (λ c κs. search needs)
     (λ c. search needs)
     (λ c. search needs)
-    (λ c. sym (ap kindIn (c .before .decision .given .1)) ∙ number-decided _ (c .before .before .before .before .before .before .read .ensures) (c .before .before .before .before .enum-told .given .1) (c .before .before .before .decide .ensures .0))
-    (λ c. sym (ap kindIn (c .before .decision2 .given .1)) ∙ number-decided _ (c .before .before .before .before .before .before .read .ensures) (c .before .before .before .before .enum-told .given .1) (c .before .before .before .decide .ensures .0)))
+    (λ c.
+    let d = c .before .before .before in
+    sym (ap kindIn (c .before .decision .given .1))
+    ∙ number-decided _ (d .before .before .before .read .ensures) (d .before .enum-told .given .1) (d .decide .ensures .0))
+    (λ c.
+    let d = c .before .before .before in
+    sym (ap kindIn (c .before .decision2 .given .1))
+    ∙ number-decided _ (d .before .before .before .read .ensures) (d .before .enum-told .given .1) (d .decide .ensures .0)))

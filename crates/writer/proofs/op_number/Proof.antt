@@ -1,7 +1,7 @@
 -- `writer::op_number` meets its contract: below 4 and above. Assumes nothing.
 use mathlib.Core.Path.{sym}
 use native.Mathlib.Omega.{arith}
-use Rattle.model.proofs.Theorems.{op-back}
+use Rattle.words.proofs.Ops.{op-back}
 use Rattle.writer.proofs.Written.{op-above}
 use Rattle.writer.proofs.op_number.Statement.{statement}
 use Rattle.writer.proofs.op_number.Tie as tie

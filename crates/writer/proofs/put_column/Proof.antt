@@ -21,7 +21,8 @@ put-column-spec =
     (λ c κs.
     let s = c .before .before .before .before .before .before .before .before .before in
     let p = c .before .before .before .before .put .ensures in
-    record { room = omega (arith, room-own (s .args .c) (c .before .before .before .before .before .before .if1 .left) (s .pre), puts-length p) })
+    let all = room-own (s .args .c) (c .before .before .before .before .before .before .if1 .left) (s .pre) in
+    record { room = omega (arith, all, puts-length p) })
     (λ c κs.
     let c1 = c .before .before .before .before in
     let c2 = c1 .before .before .before .before .before in

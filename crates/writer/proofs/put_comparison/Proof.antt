@@ -18,7 +18,8 @@ put-comparison-spec =
     (λ c κs.
     let s = c .before .before .before .before .before .before .before .before .before in
     let p = c .before .before .before .put-pair .ensures in
-    record { room = omega (arith, room-number (s .args .k) (c .before .before .before .before .before .if1 .taken) (s .pre), puts-length p) })
+    let all = room-number (s .args .k) (c .before .before .before .before .before .if1 .taken) (s .pre) in
+    record { room = omega (arith, all, puts-length p) })
     (λ c κs.
     let c1 = c .before .before .before .before in
     let c2 = c1 .before .before .before .before in
@@ -44,7 +45,8 @@ put-comparison-spec =
     (λ c κs.
     let s = c .before .before .before .before .before .before .before .before .before .before in
     let p = c .before .before .before .before .put-pair2 .ensures in
-    record { room = omega (arith, room-column (s .args .k) (c .before .before .before .before .before .before .if1 .left) (s .pre), puts-length p) })
+    let all = room-column (s .args .k) (c .before .before .before .before .before .before .if1 .left) (s .pre) in
+    record { room = omega (arith, all, puts-length p) })
     (λ c. search needs)
     (λ c.
     let c1 = c .before .before .before .before .before .before .before in

@@ -2,7 +2,7 @@
 use borrow.Author.Needs.{needs}
 use Rattle.base.proofs.Bytes.{and-then}
 use Rattle.writer.specs.Parts.{expressionBytes}
-use Rattle.writer.proofs.Written.{room-used, room-outputs, room-clauses}
+use Rattle.writer.proofs.Written.{room-used, room-outputs, room-condition}
 use Rattle.writer.proofs.put_expression.Statement.{statement}
 use Rattle.writer.proofs.put_expression.Tie as tie
 
@@ -14,7 +14,7 @@ returns c =
     let c3 = c2 .before .before .before .before .before in
     let c4 = c3 .before .before .before .before .before in
     let lists = and-then (c3 .put-each .ensures) (c2 .put-each2 .ensures) in
-    and-then (c4 .put .ensures) (and-then lists (c1 .put-clauses .ensures))
+    and-then (c4 .put .ensures) (and-then lists (c1 .put-condition .ensures))
 
 pub put-expression-spec : {M : Type 1} → statement M
 put-expression-spec =
@@ -37,6 +37,6 @@ put-expression-spec =
     let c3 = c2 .before .before .before .before .before in
     let s = c3 .before .before .before .before .before in
     let lists = and-then (c2 .put-each .ensures) (c1 .put-each2 .ensures) in
-    room-clauses (s .args .b) (s .args .e) (s .pre) (and-then (c3 .put .ensures) lists))
+    room-condition (s .args .b) (s .args .e) (s .pre) (and-then (c3 .put .ensures) lists))
     (λ c. search needs)
     returns)

@@ -1,4 +1,4 @@
--- `writer::write` meets its contract: the record's parts one after the other, which are the bytes of the job that it means. Assumes nothing.
+-- `writer::write` meets its contract: the record's parts one after the other are the bytes of the job that it means. Assumes nothing.
 use borrow.Author.Needs.{needs}
 use Rattle.base.proofs.Bytes.{and-then}
 use Rattle.job.proofs.Records.{sized}

@@ -1,0 +1,5 @@
+pub mod Databases
+pub mod Pairing
+pub mod Rows
+pub mod Pairs
+pub mod Listing
