@@ -11,8 +11,8 @@ enum { REPEATS = 25, CALLS = 10, KINDS = 5, OF_EACH_KIND = 40, SAMPLE = 31, LEVE
 
 static expansion *const expansions[LEVELS] = {plain_o2, plain_o3};
 
-// nanoseconds: what a verdict may take, and how long an expansion is waited for
-static const double WORST_BAR = 10e6, TYPICAL_BAR = 20e3, PATIENCE = 10e9;
+// nanoseconds: what a verdict of the worst family may take, and how long an expansion is waited for
+static const double WORST_BAR = 150e3, PATIENCE = 10e9;
 
 // the time of one call each, in nanoseconds
 struct times {
@@ -184,6 +184,19 @@ static struct slowest sum_typical(struct line *lines)
     return slowest;
 }
 
+// the mean over all kinds, of which there are as many jobs each
+static struct times mean_of(const struct line *lines)
+{
+    struct times mean = {0};
+    for (int k = 0; k < KINDS; k++) {
+        mean.decide += lines[k].mean.decide / KINDS;
+        mean.read += lines[k].mean.read / KINDS;
+        for (int l = 0; l < LEVELS; l++)
+            mean.plain[l] += lines[k].mean.plain[l] / KINDS;
+    }
+    return mean;
+}
+
 static void print(const char *name, const struct line *line)
 {
     const struct times *t = &line->mean;
@@ -193,11 +206,21 @@ static void print(const char *name, const struct line *line)
     fflush(stdout); // the next line may take a while
 }
 
-static bool judge(const char *what, struct slowest slowest, double bar)
+static bool judge_worst(struct slowest slowest)
 {
-    bool met = slowest.verdict < bar;
-    printf("%s: the slowest takes %.1f microseconds, reading included; reading alone takes %.1f at most; %.0f are allowed: %s.\n",
-        what, slowest.verdict / 1e3, slowest.reading / 1e3, bar / 1e3, met ? "met" : "MISSED");
+    bool met = slowest.verdict <= WORST_BAR;
+    printf("Worst family: the slowest takes %.1f microseconds, reading included; reading alone takes %.2f at most; %.0f are allowed: "
+           "%s.\n", slowest.verdict / 1e3, slowest.reading / 1e3, WORST_BAR / 1e3, met ? "met" : "MISSED");
+    return met;
+}
+
+static bool judge_typical(struct times mean, struct slowest slowest)
+{
+    bool met = mean.decide <= mean.plain[0];
+    printf("Typical jobs: the mean is %.2f microseconds, reading included; reading alone takes %.2f on average; as much as C -O2 takes, "
+           "%.2f, is allowed: %s.\n", mean.decide / 1e3, mean.read / 1e3, mean.plain[0] / 1e3, met ? "met" : "MISSED");
+    printf("The slowest of them takes %.1f microseconds; reading alone takes %.2f at most.\n", slowest.verdict / 1e3,
+        slowest.reading / 1e3);
     return met;
 }
 
@@ -226,7 +249,7 @@ int main(void)
     printf("\nRattle and C gave the same kinds.\n");
     if (sampled)
         printf("With ~ the time of C is estimated from one in %d choices, and its kind isn't known.\n", SAMPLE);
-    bool met = judge("Worst family", worst, WORST_BAR);
-    met &= judge("Typical jobs", usual, TYPICAL_BAR);
+    bool met = judge_worst(worst);
+    met &= judge_typical(mean_of(lines), usual);
     return !met;
 }

@@ -6,7 +6,7 @@
 #include <string.h>
 #include "decide.h"
 
-enum { SIZE = 1 << 20, PAINT = 0xa5, TYPICAL = 2000, LIMIT = 128 * 1024 };
+enum { SIZE = 1 << 20, PAINT = 0xa5, TYPICAL = 2000, LIMIT = 80 * 1024 };
 
 static void fail(const char *what)
 {
@@ -55,6 +55,6 @@ int main(void)
 {
     size_t all = used(decide_all), none = used(decide_none);
     printf("Stack, at most: %zu bytes to read and decide a job, %zu to refuse an empty one; %d are allowed: %s.\n", all, none,
-           LIMIT, all <= LIMIT ? "met" : "missed");
+           LIMIT, all <= LIMIT ? "met" : "MISSED");
     return all > LIMIT;
 }
