@@ -1,5 +1,7 @@
 // The ground floor: small functions on bytes. The words for lists, options, arrays and bytes that definitions use are in specs/, their laws
 // in proofs/.
+#![tactic(auto)]
+
 ghost use Rattle.std.specs.Prelude.{◌≡◌, [], ◌∷◌, ◌≤◌, ◌<◌, length, take, eqb};
 ghost use Rattle.base.specs.Lists.{any_of, pairwise};
 ghost use Rattle.base.specs.Bytes.{Room, Puts};

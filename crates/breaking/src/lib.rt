@@ -1,5 +1,7 @@
 // The ways in which the clauses of a condition are broken, and the rows of a zone that break one, with looks ahead at clauses that are
 // still to be broken.
+#![tactic(auto)]
+
 ghost use Rattle.std.specs.Prelude.{◌≡◌, ◌+◌, ◌*◌, ◌≤◌, length, drop, take};
 ghost use Rattle.base.specs.Lists.{all_of, any_of};
 ghost use Rattle.base.specs.Options.{is_some};
@@ -24,7 +26,7 @@ pub const WAYS: usize = CLAUSE * Job::CLAUSES;
 
 // How many clauses a condition has, and how many ways each. Past the last clause stands one that every row breaks, so that there are always
 // four.
-#[derive(Drop)]
+#[derive(Clone, Copy)]
 pub struct Choices {
     pub clauses: usize,
     pub sizes: [usize; Job::CLAUSES],

@@ -1,5 +1,7 @@
 // The commands of a job's bytes: which byte is which, and the checks of document 01 on one command, each by itself. Those that need the
 // record look at it and never change it.
+#![tactic(auto)]
+
 ghost use Rattle.std.specs.Prelude.{◌≡◌, ◌||◌, ◌+◌, ◌-◌, ◌≤◌, ◌<◌, length, replicate, eqb, leb};
 ghost use Rattle.base.specs.Lists.{any_of};
 ghost use Rattle.model.specs.WellFormed.{in_range};
@@ -14,7 +16,7 @@ use job::{Clause, Column, Comparison, Condition, Expression, Job};
 use layout::Command;
 
 // Where the next command is due, the byte of the last command (0 at the start), and whether the query has begun.
-#[derive(Drop)]
+#[derive(Clone, Copy)]
 pub struct Cursor {
     pub at: usize,
     pub last: u8,
@@ -23,7 +25,7 @@ pub struct Cursor {
 
 // The expression that commands are for. It is written in place, which an array in a struct in a struct cannot be: so the condition's parts
 // stand beside the others, and the last clause's, the first `comparisons` of `last`, by themselves. `clauses` has the clauses before it.
-#[derive(Drop)]
+#[derive(Clone, Copy)]
 pub struct Draft {
     pub tables: usize,
     pub used: [u8; Job::TABLES],
@@ -113,7 +115,7 @@ impl Draft {
 }
 
 // What a command adds to the record. The commands that begin an expression or end the job add nothing.
-#[derive(Drop)]
+#[derive(Clone, Copy)]
 pub enum Addition {
     Table,
     Column(Column),
@@ -125,14 +127,14 @@ pub enum Addition {
 }
 
 // What a byte stands for.
-#[derive(Drop)]
+#[derive(Clone, Copy)]
 pub enum Listed {
     As(Command),
     Unlisted,
 }
 
 // What the checks 7 to 10 say of a command: what it adds, or the number of the refusal.
-#[derive(Drop)]
+#[derive(Clone, Copy)]
 pub enum Judged {
     Added(Addition),
     Fault(u8),

@@ -1,5 +1,7 @@
 // Conditions and the rows of a zone: those that meet a clause, or a clause of each of two conditions. A zone lies in a lent array, as in
 // crate zone.
+#![tactic(auto)]
+
 ghost use Rattle.std.specs.Prelude.{◌≡◌, ◌++◌, ◌+◌};
 ghost use Rattle.base.specs.Options.{is_some};
 ghost use Rattle.job.specs.Record.{no_clause};

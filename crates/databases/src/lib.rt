@@ -1,4 +1,6 @@
 // Databases of at most one row in each table, made of the rows that show a kind, and the listing of columns.
+#![tactic(auto)]
+
 ghost use Rattle.std.specs.Prelude.{◌≡◌, cond, ◌&&◌, ◌||◌, ◌<◌, ◌≤◌, pos};
 ghost use Rattle.base.specs.Arrays.{padded};
 ghost use Rattle.model.specs.Tables.{uses};
@@ -13,14 +15,14 @@ use job::{Columns, Expression, Job};
 use twins::TwinRows;
 
 // At most one row in each table: in which tables there is one, and the values of its columns.
-#[derive(Drop)]
+#[derive(Clone, Copy)]
 pub struct Database {
     pub present: [bool; Job::TABLES],
     pub values: [i32; Job::COLUMNS],
 }
 
 // Two databases.
-#[derive(Drop)]
+#[derive(Clone, Copy)]
 pub struct Pair {
     pub first: Database,
     pub second: Database,

@@ -3,6 +3,7 @@
 // It prints neither for input that it could not read to its end, or as far as the answer takes. Where reading or printing
 // fails, standard error has one line that says why. A caller can tell by nothing else: a program of this language has no
 // exit status.
+#![tactic(auto)]
 mod wait;
 
 ghost use Rattle.std.specs.Prelude.{◌≤◌, ◌-◌, length};
@@ -14,7 +15,7 @@ use libc::{STDIN_FILENO, STDOUT_FILENO};
 const ENOUGH: usize = 600;
 
 // How many bytes were read or written; or that it failed, and errno says why.
-#[derive(Drop)]
+#[derive(Clone, Copy)]
 enum Outcome {
     Bytes(usize),
     Failed,

@@ -1,11 +1,13 @@
 // A job as a record of fixed size, passed by value. specs/Meaning.antt says which job of document 01 a record stands for.
+#![tactic(auto)]
+
 ghost use Rattle.std.specs.Prelude.{◌≡◌};
 ghost use Rattle.base.specs.Lists.{pairwise};
 ghost use Rattle.job.specs.Record.{no_expression, no_job};
 ghost use Rattle.job.specs.Same.{same_column, same_comparison, same_clause, same_condition, same_expression, same_job};
 
 // A column: its table, and its bounds.
-#[derive(Drop)]
+#[derive(Clone, Copy)]
 pub struct Column {
     pub table: u8,
     pub lo: i32,
@@ -14,7 +16,7 @@ pub struct Column {
 
 // A comparison by an op. Right is 0 where the left column is compared with the number, else one more than the column that it is compared
 // with.
-#[derive(Drop)]
+#[derive(Clone, Copy)]
 pub struct Comparison {
     pub op: u8,
     pub left: u8,
@@ -23,21 +25,21 @@ pub struct Comparison {
 }
 
 // The first `size` of the comparisons.
-#[derive(Drop)]
+#[derive(Clone, Copy)]
 pub struct Clause {
     pub size: usize,
     pub comparisons: [Comparison; Job::COMPARISONS],
 }
 
 // The first `size` of the clauses.
-#[derive(Drop)]
+#[derive(Clone, Copy)]
 pub struct Condition {
     pub size: usize,
     pub clauses: [Clause; Job::CLAUSES],
 }
 
 // The first `tables` of the used tables, the first `width` of the output columns, and the condition.
-#[derive(Drop)]
+#[derive(Clone, Copy)]
 pub struct Expression {
     pub tables: usize,
     pub used: [u8; Job::TABLES],
@@ -48,7 +50,7 @@ pub struct Expression {
 
 // What is declared: the number of tables, and the first `width` of the columns. An extract and a query are decided over it, whatever
 // record they were read into.
-#[derive(Drop)]
+#[derive(Clone, Copy)]
 pub struct Columns {
     pub tables: usize,
     pub width: usize,
@@ -56,7 +58,7 @@ pub struct Columns {
 }
 
 // The number of tables, the first `width` of the columns, and the two expressions.
-#[derive(Drop)]
+#[derive(Clone, Copy)]
 pub struct Job {
     pub tables: usize,
     pub width: usize,

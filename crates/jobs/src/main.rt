@@ -4,6 +4,7 @@
 // refusal's position or, with 0, the number of bytes that the job is written as; and then those, and the verdict. A verdict is the kind,
 // a byte for each of 16 columns, and two databases: for each of 4 tables a byte, 1 where it has its row, and for each column its value in
 // four bytes. All numbers have their low byte first. Where the input ends within a job, nothing more is answered.
+#![tactic(auto)]
 ghost use Rattle.std.specs.Prelude.{◌+◌, ◌<◌, ◌≤◌, length};
 
 use databases::Database;

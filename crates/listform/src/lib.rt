@@ -1,4 +1,6 @@
 // Lists of comparisons as bytes, and their answers; specs/Form.antt says what stands where.
+#![tactic(auto)]
+
 ghost use Rattle.std.specs.Prelude.{◌≡◌, cond, ◌∷◌, ◌+◌, ◌*◌, ◌≤◌, length};
 ghost use Rattle.std.specs.Int.Signed.{le_z};
 ghost use Rattle.base.specs.Lists.{pairwise, flat_map};

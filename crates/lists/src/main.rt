@@ -7,6 +7,7 @@
 //
 // An answer is a byte 1 and the n values of the least row; or a byte 0 and n zeros, where no row meets the list. A byte 2 answers bytes
 // that are no list, also where the input ends within one, and then nothing more is read.
+#![tactic(auto)]
 ghost use Rattle.std.specs.Prelude.{◌<◌};
 ghost use Rattle.listform.specs.Uses.{Room};
 

@@ -1,4 +1,6 @@
 // The entry points of the part. None asks anything of its caller.
+#![tactic(auto)]
+
 ghost use Rattle.std.specs.Prelude.{◌≡◌, length};
 ghost use Rattle.layout.specs.Reading.{read_of};
 ghost use Rattle.reader.specs.Answers.{decoded_of};
@@ -32,7 +34,7 @@ fn is_read(job: Job) -> bool
 }
 
 // What writing answers: how many bytes it wrote, or a refusal with its number and position.
-#[derive(Drop)]
+#[derive(Clone, Copy)]
 pub enum Written {
     Count(usize),
     Refused(u8, usize),
@@ -56,14 +58,14 @@ pub fn write(job: Job, out: &mut [u8]) -> Written
 }
 
 // What deciding answers: the kind, or a refusal with its number and position.
-#[derive(Drop)]
+#[derive(Clone, Copy)]
 pub enum Decision {
     Kind(u8),
     Refused(u8, usize),
 }
 
 // The answer, and beside it the listing and the two databases.
-#[derive(Drop)]
+#[derive(Clone, Copy)]
 pub struct Decided {
     pub answer: Decision,
     pub listing: [u8; Job::COLUMNS],

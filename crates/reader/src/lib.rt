@@ -1,4 +1,6 @@
 // Job bytes: reading them into a record, command after command.
+#![tactic(auto)]
+
 ghost use Rattle.std.specs.Prelude.{◌≡◌, cond, not, ◌<◌, length, get_or};
 ghost use Rattle.layout.specs.Reading.{taken, step_of, read_of};
 ghost use Rattle.commands.specs.Uses.{state_in, tables_in, Held};
@@ -10,21 +12,21 @@ use job::Job;
 use layout::Command;
 
 // What a command gives: the next cursor and what is added, or a refusal with its number and position.
-#[derive(Drop)]
+#[derive(Clone, Copy)]
 pub enum Took {
     Next(Cursor, Addition),
     Refused(u8, usize),
 }
 
 // What reading gives: the whole job, or a refusal with its number and position.
-#[derive(Drop)]
+#[derive(Clone, Copy)]
 pub enum Answer {
     Whole,
     Refused(u8, usize),
 }
 
 // The record beside it: the job's, or the empty one.
-#[derive(Drop)]
+#[derive(Clone, Copy)]
 pub struct Decoded {
     pub answer: Answer,
     pub job: Job,

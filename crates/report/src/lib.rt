@@ -1,4 +1,6 @@
 // What the deciding program prints for the bytes that it reads: a refusal, or a verdict.
+#![tactic(auto)]
+
 ghost use Rattle.std.specs.Prelude.{◌≡◌, [], ◌∷◌, ◌++◌, ◌≤◌, length, drop};
 ghost use Rattle.base.specs.Lists.{flat_map};
 ghost use Rattle.base.specs.Bytes.{Room, Puts};

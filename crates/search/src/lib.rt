@@ -1,5 +1,7 @@
 // The search for a row that meets two conditions and breaks every clause of a third. A zone lies in a lent array, as in crate zone; what
 // the arrays between hold afterwards is nobody's concern.
+#![tactic(auto)]
+
 ghost use Rattle.std.specs.Prelude.{◌≡◌, ◌+◌, ◌<◌, length};
 ghost use Rattle.base.specs.Lists.{filter};
 ghost use Rattle.base.specs.Options.{is_some};
@@ -89,7 +91,7 @@ fn order_by(weights: [usize; Job::CLAUSES]) -> [usize; Job::CLAUSES]
 // ---- Rows that break every clause
 
 // The ways of one clause: where they begin, and how many there are.
-#[derive(Drop)]
+#[derive(Clone, Copy)]
 pub struct Level {
     pub from: usize,
     pub count: usize,

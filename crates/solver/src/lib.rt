@@ -1,4 +1,6 @@
 // Lists of comparisons as zones: node 0 stands for the constant zero, node c + 1 for column c, and values are biased.
+#![tactic(auto)]
+
 ghost use Rattle.std.specs.Prelude.{◌≡◌, ◌+◌, ◌*◌, ◌<◌, length, replicate, pos};
 ghost use Rattle.base.specs.Options.{is_some};
 ghost use Rattle.model.specs.Least.{least_row};
@@ -24,7 +26,7 @@ const AT_MOST: u8 = 1;
 const AT_LEAST: u8 = 3;
 
 // What a comparison comes to: one constraint, which then stands in both places, or two.
-#[derive(Drop)]
+#[derive(Clone, Copy)]
 pub struct Constraints {
     pub two: bool,
     pub first: Constraint,

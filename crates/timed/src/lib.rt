@@ -1,4 +1,6 @@
 // The update of a zone, and reading and deciding a job, exported so that bench/ can time them beside C.
+#![tactic(auto)]
+
 ghost use Rattle.std.specs.Prelude.{◌≡◌};
 ghost use Rattle.zone.specs.Zone.{allows, constrained, kept};
 ghost use Rattle.zone.specs.Array.{zone_in, laid};

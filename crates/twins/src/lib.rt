@@ -1,5 +1,7 @@
 // Two rows that agree in the stored columns, as one row: its columns and bounds, conditions said of either row, and searches over such
 // rows.
+#![tactic(auto)]
+
 ghost use Rattle.std.specs.Prelude.{◌≡◌, false, ◌||◌, [], map, suc, ◌+◌, ◌≤◌, length, get_or, take, pos, eqb};
 ghost use Rattle.base.specs.Lists.{all_of, at, range, tabulate};
 ghost use Rattle.base.specs.Options.{is_some};
@@ -21,7 +23,7 @@ pub const COLUMNS: usize = 32;
 
 // Two rows that agree in the stored columns, as one row: how many columns it has, where the second row's value of each column stands, and
 // its bounds.
-#[derive(Drop)]
+#[derive(Clone, Copy)]
 pub struct TwinRows {
     pub columns: usize,
     pub twin: [u8; Job::COLUMNS],

@@ -1,4 +1,6 @@
 // What follows from declared columns, an extract and a query before any data: the kind, the listing and the two databases.
+#![tactic(auto)]
+
 ghost use Rattle.std.specs.Prelude.{◌≡◌, ◌+◌, ◌<◌, take};
 ghost use Rattle.base.specs.Lists.{at};
 ghost use Rattle.model.specs.Verdict.{kind_of};
@@ -100,7 +102,7 @@ fn find_two(
 // ---- The verdict
 
 // The kind, the listing, and the two databases.
-#[derive(Drop)]
+#[derive(Clone, Copy)]
 pub struct Verdict {
     pub kind: u8,
     pub listing: [u8; Job::COLUMNS],

@@ -1,4 +1,6 @@
 // Job bytes: writing a record as bytes.
+#![tactic(auto)]
+
 ghost use Rattle.std.specs.Prelude.{◌≡◌, [], ◌∷◌, ◌++◌, ◌≤◌, min, length, take, drop};
 ghost use Rattle.base.specs.Bytes.{Room, Puts};
 ghost use Rattle.words.specs.Word.{encoded};
