@@ -1,0 +1,29 @@
+-- `words::compare` meets its contract, arm by arm. Assumes nothing.
+use borrow.Author.Tests.{ne_eqb}
+use mir.Facts.{to_z-of_z}
+use Rattle.words.proofs.compare.Goals as goal
+
+pub returns-in-0 : goal.returns-in-0
+returns-in-0 c = rw (to_z-of_z c.ranges.a, to_z-of_z c.ranges.b, c.in-0.is)
+
+pub returns-in-1 : goal.returns-in-1
+returns-in-1 c = rw (to_z-of_z c.ranges.a, to_z-of_z c.ranges.b, c.in-1.is)
+
+pub returns-in-2 : goal.returns-in-2
+returns-in-2 c = rw (c.same.ensures, to_z-of_z c.ranges.a, to_z-of_z c.ranges.b, c.in-2.is)
+
+pub returns-in-3 : goal.returns-in-3
+returns-in-3 c = rw (to_z-of_z c.ranges.a, to_z-of_z c.ranges.b, c.in-3.is)
+
+pub returns-in-4 : goal.returns-in-4
+returns-in-4 c = rw (to_z-of_z c.ranges.a, to_z-of_z c.ranges.b, c.in-4.is)
+
+pub returns-in_default : goal.returns-in_default
+returns-in_default c =
+    rw (
+      ne_eqb _ 0 c.in_default.in_default-own.rest.0.0.0.0.1,
+      ne_eqb _ 1 c.in_default.in_default-own.rest.0.0.0.1,
+      ne_eqb _ 2 c.in_default.in_default-own.rest.0.0.1,
+      ne_eqb _ 3 c.in_default.in_default-own.rest.0.1,
+      ne_eqb _ 4 c.in_default.in_default-own.rest.1,
+    )
