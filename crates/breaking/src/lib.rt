@@ -182,7 +182,7 @@ fn open_after(
 ) -> bool
     requires { LooksAhead n d.now c k ways.now order }
     ensures { result ≡ all_of (breakable (tightened (zone_in n d.now) c))
-        (drop rest (inOrder order (choicesIn k ways.now))) }
+        (drop rest (in_order order (choices_in k ways.now))) }
 {
     let mut i = rest;
     while i < Job::CLAUSES {
@@ -209,9 +209,9 @@ pub fn choose(
 ) -> bool
     requires { Chooses n from.now to.old p k ways.now order }
     ensures answer { result ≡ is_some (chosen (zone_in n from.now) (way_in ways.now p)
-        (drop rest (inOrder order (choicesIn k ways.now)))) }
+        (drop rest (in_order order (choices_in k ways.now)))) }
     ensures zone { Lies n (chosen (zone_in n from.now) (way_in ways.now p)
-        (drop rest (inOrder order (choicesIn k ways.now)))) to.new }
+        (drop rest (in_order order (choices_in k ways.now)))) to.new }
 {
     let c = way_at(ways, p);
     if !zone::allows(from, n, c) {
