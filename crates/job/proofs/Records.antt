@@ -37,9 +37,9 @@ pub record Sized (r : Job) : Type 0 where
   pub query : SizedExpression r.query
 
 pub six : (c : Clause) (vs : List Val) → Is clause.the_row c vs → length c.comparisons ≡ 6
-six c vs h = sym (length-map c.comparisons _) ∙ h.1.1.1.0.1.0.1
+six c vs h = h.1.1.1.0.1.0.1
 
-sixes : (cs : List Clause) (us : List Val) → shadow (each _ (clause.the_field).row.own_val (map (clause.the_field).into cs) us) → Sixes cs
+sixes : (cs : List Clause) (us : List Val) → shadow (each (clause.the_row).Denot (clause.the_row).own_val cs us) → Sixes cs
 sixes [] us h = tt
 sixes (c ∷ cs) [] h = absurd h
 sixes (c ∷ cs) (u ∷ us) h = (six c (u ∷ []) h.0, sixes cs us h.1)
@@ -47,21 +47,21 @@ sixes (c ∷ cs) (u ∷ us) h = (six c (u ∷ []) h.0, sixes cs us h.1)
 pub sized_condition : (k : Condition) (vs : List Val) → Is condition.the_row k vs → SizedCondition k
 sized_condition k vs h =
     let clauses = h.1.1.1.0.1 in
-    record { clauses = sym (length-map k.clauses _) ∙ clauses.0.1; comparisons = sixes k.clauses _ clauses.1 }
+    record { clauses = clauses.0.1; comparisons = sixes k.clauses _ clauses.1 }
 
 pub sized_expression : (e : Expression) (vs : List Val) → Is expression.the_row e vs → SizedExpression e
 sized_expression e vs h = record {
-  used = sym (length-map e.used _) ∙ h.1.1.1.0.1.0.1;
-  outputs = sym (length-map e.outputs _) ∙ h.1.1.1.1.1.0.1.0.1;
+  used = h.1.1.1.0.1.0.1;
+  outputs = h.1.1.1.1.1.0.1.0.1;
   condition = sized_condition e.condition _ h.1.1.1.1.1.1.0;
 }
 
 pub sized : (r : Job) (vs : List Val) → Is job.the_row r vs → Sized r
 sized r vs h = record {
-  columns = sym (length-map r.columns _) ∙ h.1.1.1.1.0.1.0.1;
+  columns = h.1.1.1.1.0.1.0.1;
   extract = sized_expression r.extract _ h.1.1.1.1.1.0;
   query = sized_expression r.query _ h.1.1.1.1.1.1.0;
 }
 
 pub sized_columns : (k : Columns) (vs : List Val) → Is columns.the_row k vs → length k.columns ≡ 16
-sized_columns k vs h = sym (length-map k.columns _) ∙ h.1.1.1.1.0.1.0.1
+sized_columns k vs h = h.1.1.1.1.0.1.0.1

@@ -1,0 +1,32 @@
+use mathlib.Core.Path.{refl, sym, ◌∙◌}
+use mathlib.Core.List.{[]}
+use Prim.Native.Nat.{◌-◌}
+use native.Mathlib.Omega.{arith}
+use lib.ListN.{length, length-map}
+use borrow.Author.Tests.{eq-eqb, ne_eqb}
+use Rattle.job.specs.Same.{same_clause, same_condition}
+use Rattle.job.proofs.Alike.{entry_fails, entry_passes, entries_end}
+use Rattle.job.proofs.same_condition.Goals as goal
+
+pub returns-then-a-b : goal.returns-then-a-b
+unfolding same_condition
+returns-then-a-b c = rw (ne_eqb _ _ c.if-a-b.true)
+
+pub loop-i-init : goal.loop-i-init
+loop-i-init c = (omega arith, c.well_formed.0.1.1.1.0.1.0.1, c.well_formed.1.0.1.1.1.0.1.0.1, refl)
+
+pub returns-then-not-same_clause : goal.returns-then-not-same_clause
+unfolding same_condition
+returns-then-not-same_clause c = rw (eq-eqb _ _ c.if-a-b.false) (entry_fails same_clause (record { size = 0; comparisons = [] }) 4 _ _ c.loop-i.invariant.1 c.loop-i.invariant.2 _ c.loop-i.invariant.3 c.loop-i-test.true c.same_clause.ensures c.if-not-same_clause.true-raw)
+
+pub loop-i-preserved : goal.loop-i-preserved
+loop-i-preserved c = (
+  omega arith,
+  c.loop-i.invariant.1,
+  c.loop-i.invariant.2,
+  entry_passes same_clause (record { size = 0; comparisons = [] }) 4 _ _ c.loop-i.invariant.1 c.loop-i.invariant.2 _ c.loop-i.invariant.3 c.loop-i-test.true c.same_clause.ensures c.if-not-same_clause.false-raw,
+)
+
+pub returns : goal.returns
+unfolding same_condition
+returns c = rw (eq-eqb _ _ c.if-a-b.false) (entries_end same_clause (record { size = 0; comparisons = [] }) 4 _ _ c.loop-i.invariant.1 c.loop-i.invariant.2 _ c.loop-i.invariant.3 c.loop-i-test.false)
