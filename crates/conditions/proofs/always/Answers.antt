@@ -1,0 +1,5 @@
+-- `conditions::always` meets its contract. Assumes nothing.
+use Rattle.conditions.proofs.always.Goals as goal
+
+pub returns : goal.returns
+returns c = rw c.nothing-clause.ensures
