@@ -143,8 +143,8 @@ amid q l j e = record { last = l; in_query = q; job = with_current q j e }
 legal_in : (q : Bool) (l : ℕ) (j : Job) (e : Expression) (c : Command) (n : Entry) → T (any_of (eqb l) (before q c))
     → ((st : State) → current st ≡ e → T (has_room st c)) → T (in_ranges n) → T (op_known n) → T (declared j.tables e n) → T (is_new e n)
     → Legal (amid q l j e) c n
-legal_in true l j e c n o r i k d f = record { order = o; room = r _ refl; range = i; op = k; named = d; fresh = f }
-legal_in false l j e c n o r i k d f = record { order = o; room = r _ refl; range = i; op = k; named = d; fresh = f }
+legal_in true l j e c n o r i k d f = record { order = o; room = r (amid true l j e) refl; range = i; op = k; named = d; fresh = f }
+legal_in false l j e c n o r i k d f = record { order = o; room = r (amid false l j e) refl; range = i; op = k; named = d; fresh = f }
 
 -- one entry, with which e becomes f
 take_in : (q : Bool) (l : ℕ) (j : Job) (e f : Expression) {c : Command} {b : ℕ} {n : Entry} → Spelled c b n

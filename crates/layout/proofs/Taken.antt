@@ -206,10 +206,10 @@ run_accepted r l s pre at zero q h f = absurd (omega arith)
 run_accepted done l s pre at (suc n) q h f =
     let long : length s ≡ at + 1 = rw (q, length-append pre (0xFF ∷ []), h) in
     rw (step_spelled spelled_end l s pre [] at q h, eq-eqb (at + 1) (length s) (sym long))
-run_accepted (then {b = b} {e = e} {es = es} w o k r) l s pre at (suc n) q h f =
+run_accepted {st = st} (then {b = b} {e = e} {es = es} w o k r) l s pre at (suc n) q h f =
     let F = flat_map es entry_bytes in
     let split : pre ++ (entry_bytes e ++ F ++ 0xFF ∷ []) ≡ pre ++ entry_bytes e ++ (F ++ 0xFF ∷ []) = simp append_assoc in
     let here : s ≡ pre ++ (entry_bytes e ++ (F ++ 0xFF ∷ [])) = q ∙ simp append_assoc in
     rw (step_spelled w k s pre (F ++ 0xFF ∷ []) at here h, o)
-    (run_accepted r l s (pre ++ entry_bytes e) (at + length (entry_bytes e)) n (q ∙ split) (rw (length-append pre (entry_bytes e), h))
+    (run_accepted {st = after b e st} r l s (pre ++ entry_bytes e) (at + length (entry_bytes e)) n (q ∙ split) (rw (length-append pre (entry_bytes e), h))
     (omega arith))

@@ -1,7 +1,0 @@
--- `reader::refused` meets its contract. Assumes nothing.
-use borrow.Author.Rules.{rules}
-use Rattle.reader.proofs.refused.Statement.{statement}
-use Rattle.reader.proofs.refused.Tie as tie
-
-pub refused-spec : {M : Type 1} → statement M
-refused-spec = tie.close (tie.spec (λ c κs. search rules) (λ c. rw c.empty.ensures))
