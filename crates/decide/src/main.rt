@@ -1,117 +1,117 @@
 // Reads a job from standard input, decides on it, and prints the verdict, or the refusal.
 //
 // It prints neither for input that it could not read to its end, or as far as the answer takes. Where reading or printing
-// fails, standard error has one line that says why. A caller can tell by nothing else: a program of this language has no
-// exit status.
+// fails, standard error has one line that says why. A caller can tell by nothing else: the exit status is 0 all the same.
 #![tactic(auto)]
+
+mod failure;
 mod wait;
 
-ghost use Rattle.std.specs.Prelude.{◌≤◌, ◌-◌, length};
+ghost use Rattle.std.specs.Prelude.{◌≤◌, ◌-◌, ◌<◌, ◌≡◌, ℕ, length, take, drop, IfOk, IfErr, OnOk, IfSome};
+ghost use Rattle.std.specs.Io.KnownBytes.{Appends, Consumes, IsAtEnd, ReadConsumes, WriteAppends};
+ghost use Rattle.report.specs.Printed.{printed};
 ghost use Rattle.decide.specs.AtMost.{AtMost};
+ghost use Rattle.decide.specs.Silent.{Silent};
 
-use libc::{STDIN_FILENO, STDOUT_FILENO};
+use failure::Failure;
+use std::io;
+use std::io::{ErrorKind, Read, Write};
+use std::time::Clock;
 
 // How many bytes are read. No job has more than 579, and the first 600 tell what is printed for longer input.
 const ENOUGH: usize = 600;
 
-// How many bytes were read or written; or that it failed, and errno says why.
-#[derive(Clone, Copy)]
-enum Outcome {
-    Bytes(usize),
-    Failed,
-}
-
 // One call of read, into s from a place on. It gives no byte only at the end of the input.
-fn read_from(s: &mut [u8], at: usize) -> Outcome
+fn read_from<R: Read>(input: &mut R, s: &mut [u8], at: usize) -> io::Result<usize>
     requires { at ≤ length s.old }
-    ensures { AtMost (length s.old - at) result }
+    ensures within { AtMost (length s.old - at) result }
+    ensures kept { take at s.new ≡ take at s.old }
+    ensures bytes { ReadConsumes (R.remaining input.old) (R.remaining input.new) result (drop at s.new) }
 {
-    let part = &mut s[at..];
-    let got = libc::read(STDIN_FILENO, part);
-    if got < 0 {
-        return Outcome::Failed;
-    }
-    Outcome::Bytes(io::count(got, part))
+    input.read(&mut s[at..])
 }
 
 // One call of write, of s from a place on.
-fn write_from(s: &[u8], at: usize) -> Outcome
+fn write_from<W: Write>(output: &mut W, s: &[u8], at: usize) -> io::Result<usize>
     requires { at ≤ length s.now }
-    ensures { AtMost (length s.now - at) result }
+    ensures within { AtMost (length s.now - at) result }
+    ensures bytes { WriteAppends (W.contents output.old) (W.contents output.new) result (drop at s.now) }
 {
-    let part = &s[at..];
-    let put = libc::write(STDOUT_FILENO, part);
-    if put < 0 {
-        return Outcome::Failed;
-    }
-    Outcome::Bytes(io::count(put, part))
+    output.write(&s[at..])
 }
 
 // Reads until the input ends or s is full.
-fn read_input(s: &mut [u8]) -> Outcome
-    ensures { AtMost (length s.new) result }
+fn read_input<R: Read>(clock: &impl Clock, input: &mut R, s: &mut [u8]) -> io::Result<usize>
+    ensures within { AtMost (length s.new) result }
+    ensures bytes { IfOk result (λ n. Consumes (R.remaining input.old) (R.remaining input.new) (take n s.new)) }
+    ensures end { IfOk result (λ n. n < length s.new → IsAtEnd (R.remaining input.new)) }
 {
     let mut done = 0;
     let mut left = wait::TIMEOUT;
     while done < s.len() {
-        let step = read_from(s, done);
-        match step {
-            Outcome::Bytes(n) => {
-                if n == 0 {
-                    break;
-                }
-                done += n;
-            }
-            Outcome::Failed => {
-                left = wait::again(left);
+        match read_from(input, s, done) {
+            Ok(0) => break,
+            Ok(n) => done += n,
+            Err(error) => {
+                left = wait::again(clock, error.kind(), left);
                 if left == 0 {
-                    return Outcome::Failed;
+                    return Err(error);
                 }
             }
         }
     }
-    Outcome::Bytes(done)
+    Ok(done)
 }
 
-// Writes all of s, or answers false, and errno says why. A write that takes nothing counts as one that failed.
-fn write_output(s: &[u8]) -> bool {
+// Writes all of s. A write that takes nothing counts as one that failed.
+fn write_output<W: Write>(clock: &impl Clock, output: &mut W, s: &[u8]) -> io::Result<()>
+    ensures { OnOk result (Appends (W.contents output.old) (W.contents output.new) s.now) }
+{
     let mut done = 0;
     let mut left = wait::TIMEOUT;
     while done < s.len() {
-        let step = write_from(s, done);
-        match step {
-            Outcome::Bytes(n) => {
-                if n == 0 {
-                    return false;
-                }
-                done += n;
-            }
-            Outcome::Failed => {
-                left = wait::again(left);
+        match write_from(output, s, done) {
+            Ok(0) => return Err(io::Error::from(ErrorKind::WriteZero)),
+            Ok(n) => done += n,
+            Err(error) => {
+                left = wait::again(clock, error.kind(), left);
                 if left == 0 {
-                    return false;
+                    return Err(error);
                 }
             }
         }
     }
-    true
+    Ok(())
 }
 
 // Decides on the job that s has, and prints the answer.
-fn answer(s: &[u8]) {
+fn answer<W: Write>(clock: &impl Clock, output: &mut W, s: &[u8]) -> io::Result<()>
+    ensures { OnOk result (Appends (W.contents output.old) (W.contents output.new) (printed s.now)) }
+{
     let mut out = [0u8; report::MOST];
     let n = report::text(s, &mut out);
-    let written = write_output(&out[..n]);
-    if !written {
-        os::fail(b"standard output");
+    write_output(clock, output, &out[..n])
+}
+
+// All of it, on any input and output: what is printed is the answer to all that the input has, though only its front is read.
+fn run<R: Read, W: Write>(clock: &impl Clock, input: &mut R, output: &mut W) -> Result<(), Failure>
+    ensures answer { OnOk result (IfSome (R.remaining input.old)
+        (λ s. Appends (W.contents output.old) (W.contents output.new) (printed s))) }
+    ensures silent { IfErr result (Silent (W.contents output.old) (W.contents output.new)) }
+{
+    let mut s = [0u8; ENOUGH];
+    let n = match read_input(clock, input, &mut s) {
+        Ok(n) => n,
+        Err(error) => return Err(Failure::Input(error)),
+    };
+    match answer(clock, output, &s[..n]) {
+        Ok(()) => Ok(()),
+        Err(error) => Err(Failure::Output(error)),
     }
 }
 
-fn main() {
-    let mut s = [0u8; ENOUGH];
-    let input = read_input(&mut s);
-    match input {
-        Outcome::Bytes(n) => answer(&s[..n]),
-        Outcome::Failed => os::fail(b"standard input"),
+fn main(rt: HostRuntime) {
+    if let Err(failure) = run(&rt, &mut rt.stdin(), &mut rt.stdout()) {
+        failure::tell(&rt, failure);
     }
 }

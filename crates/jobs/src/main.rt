@@ -5,16 +5,17 @@
 // a byte for each of 16 columns, and two databases: for each of 4 tables a byte, 1 where it has its row, and for each column its value in
 // four bytes. All numbers have their low byte first. Where the input ends within a job, nothing more is answered.
 #![tactic(auto)]
+
 ghost use Rattle.std.specs.Prelude.{◌+◌, ◌<◌, ◌≤◌, length};
 
 use databases::Database;
 use job::Job;
-use libc::{STDIN_FILENO, STDOUT_FILENO};
 use pobghine::{Decision, Written};
 use reader::Answer;
+use std::io::{Read, Write};
 
 // The functions that answer with a bool say whether a further job may follow.
-fn put_head(number: u8, n: usize) -> bool {
+fn put_head(output: &mut impl Write, number: u8, n: usize) -> bool {
     let head = [
         number,
         (n % 256) as u8,
@@ -22,97 +23,84 @@ fn put_head(number: u8, n: usize) -> bool {
         (n / 65536 % 256) as u8,
         (n / 16777216 % 256) as u8,
     ];
-    io::write_all(STDOUT_FILENO, &head)
+    output.write_all(&head).is_ok()
 }
 
 // A database from a place on.
 fn put_database(d: Database, out: &mut [u8], at: usize)
     requires { at + 68 ≤ length out.old }
 {
-    let present = d.present;
-    let values = d.values;
-    let mut t = 0;
-    while t < Job::TABLES {
-        out[at + t] = if present[t] { 1 } else { 0 };
-        t += 1;
+    for (t, present) in d.present.iter().enumerate() {
+        out[at + t] = u8::from(*present);
     }
-    let mut c = 0;
-    while c < Job::COLUMNS {
-        words::write(&mut *out, at + Job::TABLES + c * 4, values[c]);
-        c += 1;
+    for (c, value) in d.values.iter().enumerate() {
+        words::write(out, at + Job::TABLES + c * 4, *value);
     }
 }
 
-fn put_verdict(job: Job) -> bool {
+fn put_verdict(output: &mut impl Write, job: Job) -> bool {
     let d = pobghine::decide(job);
     let answer = d.answer;
     let Decision::Kind(kind) = answer else {
         return false;
     };
-    let listing = d.listing;
     let mut out = [0u8; 153];
     out[0] = kind;
-    let mut c = 0;
-    while c < Job::COLUMNS {
-        out[c + 1] = listing[c];
-        c += 1;
-    }
+    out[1..17].copy_from_slice(&d.listing);
     put_database(d.first, &mut out, 17);
     put_database(d.second, &mut out, 85);
-    io::write_all(STDOUT_FILENO, &out)
+    output.write_all(&out).is_ok()
 }
 
-fn answer_whole(job: Job) -> bool {
+fn answer_whole(output: &mut impl Write, job: Job) -> bool {
     let mut out = [0u8; writer::MAX_JOB_BYTES];
     let written = pobghine::write(job, &mut out);
     match written {
-        Written::Refused(number, at) => put_head(number, at),
+        Written::Refused(number, at) => put_head(output, number, at),
         Written::Count(n) => {
-            if !put_head(0, n) {
+            if !put_head(output, 0, n) {
                 return false;
             }
-            if !io::write_all(STDOUT_FILENO, &out[..n]) {
+            if output.write_all(&out[..n]).is_err() {
                 return false;
             }
-            put_verdict(job)
-        },
+            put_verdict(output, job)
+        }
     }
 }
 
 // Reads a job into s, which it fills, and answers it.
-fn answer_job(s: &mut [u8]) -> bool {
-    let got = io::read_full(STDIN_FILENO, &mut *s);
-    if got < s.len() {
+fn answer_job<R: Read, W: Write>(input: &mut R, output: &mut W, s: &mut [u8]) -> bool {
+    if input.read_exact(s).is_err() {
         return false;
     }
-    let decoded = pobghine::read(&*s);
+    let decoded = pobghine::read(s);
     let answer = decoded.answer;
     match answer {
-        Answer::Refused(number, at) => put_head(number, at),
-        Answer::Whole => answer_whole(decoded.job),
+        Answer::Refused(number, at) => put_head(output, number, at),
+        Answer::Whole => answer_whole(output, decoded.job),
     }
 }
 
-fn next_job(s: &mut [u8]) -> bool
+fn next_job<R: Read, W: Write>(input: &mut R, output: &mut W, s: &mut [u8]) -> bool
     requires { 65535 ≤ length s.old }
 {
     let mut head = [0u8; 2];
-    let got = io::read_full(STDIN_FILENO, &mut head);
-    if got < 2 {
+    if input.read_exact(&mut head).is_err() {
         return false;
     }
     let size = base::wide(head[0]) + base::wide(head[1]) * 256;
-    answer_job(&mut s[..size])
+    answer_job(input, output, &mut s[..size])
 }
 
-fn main() {
+fn main(rt: HostRuntime) {
+    let mut input = rt.stdin();
+    let mut output = rt.stdout();
     let mut s = [0u8; 65535];
-    // A loop needs a number that falls; no input has so many jobs.
-    let mut left = u64::MAX;
-    while 0 < left {
-        if !next_job(&mut s) {
+    // A loop ends by a count; no input has so many jobs.
+    for _ in 0..u64::MAX {
+        if !next_job(&mut input, &mut output, &mut s) {
             return;
         }
-        left -= 1;
     }
 }

@@ -8,64 +8,72 @@
 // An answer is a byte 1 and the n values of the least row; or a byte 0 and n zeros, where no row meets the list. A byte 2 answers bytes
 // that are no list, also where the input ends within one, and then nothing more is read.
 #![tactic(auto)]
+
 ghost use Rattle.std.specs.Prelude.{◌<◌};
 ghost use Rattle.listform.specs.Uses.{Room};
 
-use libc::{STDIN_FILENO, STDOUT_FILENO};
+use std::io::{Read, Write};
 
 // This function and the next two answer whether a further list may follow.
-fn refuse() -> bool {
+fn refuse(output: &mut impl Write) -> bool {
     let refusal = [2u8; 1];
-    io::write_all(STDOUT_FILENO, &refusal);
+    let _ = output.write_all(&refusal);
     false
 }
 
 // Reads a list of n columns and m comparisons into s, which it fills, and answers it.
-fn answer_list(n: usize, m: usize, s: &mut [u8], out: &mut [u8]) -> bool
+fn answer_list<R: Read, W: Write>(
+    input: &mut R,
+    output: &mut W,
+    n: usize,
+    m: usize,
+    s: &mut [u8],
+    out: &mut [u8],
+) -> bool
     requires { Room n m s.old out.old }
 {
-    let got = io::read_full(STDIN_FILENO, &mut *s);
-    if got < s.len() {
-        return refuse();
+    if input.read_exact(s).is_err() {
+        return refuse(output);
     }
-    let count = listform::answer(n, m, &*s, &mut *out);
-    if !io::write_all(STDOUT_FILENO, &out[..count]) {
+    let count = listform::answer(n, m, s, out);
+    if output.write_all(&out[..count]).is_err() {
         return false;
     }
     1 < count
 }
 
-fn next_list() -> bool {
-    let mut head = [0u8; 2];
-    let got = io::read_full(STDIN_FILENO, &mut head);
-    if got == 0 {
+fn next_list<R: Read, W: Write>(input: &mut R, output: &mut W) -> bool {
+    // The first byte is read alone: an input that ends before it ends between two lists, and within one after it.
+    let mut columns = [0u8; 1];
+    if input.read_exact(&mut columns).is_err() {
         return false;
     }
-    if got < 2 {
-        return refuse();
+    let mut comparisons = [0u8; 1];
+    if input.read_exact(&mut comparisons).is_err() {
+        return refuse(output);
     }
-    let n = base::wide(head[0]);
-    let m = base::wide(head[1]);
+    let n = base::wide(columns[0]);
+    let m = base::wide(comparisons[0]);
     if n == 0 {
-        return refuse();
+        return refuse(output);
     }
     if listform::COLUMNS < n {
-        return refuse();
+        return refuse(output);
     }
     let size = n * 8 + m * 7;
     let room = n * 4 + 1;
     let mut s = [0u8; listform::LIST];
     let mut out = [0u8; listform::ANSWER];
-    answer_list(n, m, &mut s[..size], &mut out[..room])
+    answer_list(input, output, n, m, &mut s[..size], &mut out[..room])
 }
 
-fn main() {
-    // A loop needs a number that falls; no input has so many lists.
-    let mut left = u64::MAX;
-    while 0 < left {
-        if !next_list() {
+fn main(rt: HostRuntime) {
+    let mut input = rt.stdin();
+    let mut output = rt.stdout();
+    // A loop ends by a count; no input has so many lists.
+    for _ in 0..u64::MAX {
+        if !next_list(&mut input, &mut output) {
             return;
         }
-        left -= 1;
     }
 }

@@ -1,0 +1,45 @@
+-- What is read or written in several calls, and what the front of an input tells. Assumes nothing.
+use Rattle.std.proofs.Common.{◌≡◌, ◌∙◌, ℕ, List, [], ◌++◌, ◌+◌, ◌≤◌, ◌<◌, ◌⊎◌, inl, inr, Option, Some, None, IfSome}
+use Rattle.std.proofs.Common.{sym, ap, subst, arith, length, take, drop, take_all, append-nil, length-append}
+use Rattle.std.proofs.Math.Nat.{eq-or-lt_of_le}
+use Rattle.std.proofs.Math.Seq.{take-add, take-append_seam}
+use Rattle.std.specs.Io.KnownBytes.{Appends, Consumes, IsAtEnd}
+use Rattle.std.proofs.KnownBytes.{Appends-trans, Consumes-trans}
+use Rattle.report.specs.Printed.{printed}
+use Rattle.report.proofs.Printed.{printed_enough}
+
+-- one read more: its bytes stand behind those that were there
+pub read_more : (a b c : Option (List ℕ)) (at n : ℕ) (old new : List ℕ) → take at new ≡ take at old
+    → Consumes a b (take at old) → Consumes b c (take n (drop at new)) → Consumes a c (take (at + n) new)
+read_more a b c at n old new kept first second =
+    let joined = ap (λ l. l ++ take n (drop at new)) (sym kept) ∙ sym (take-add at n new) in
+    subst (Consumes a c) joined (Consumes-trans a b c _ _ first second)
+
+-- one write more
+pub write_more : (a b c : Option (List ℕ)) (at n : ℕ) (s : List ℕ)
+    → Appends a b (take at s) → Appends b c (take n (drop at s)) → Appends a c (take (at + n) s)
+write_more a b c at n s first second = subst (Appends a c) (sym (take-add at n s)) (Appends-trans a b c _ _ first second)
+
+-- an input that begins with 600 bytes is printed as these are
+long_input : (s x y : List ℕ) → length s ≡ 600 → x ≡ s ++ y → printed s ≡ printed x
+long_input s x y full e =
+    let front : take 600 x ≡ s = ap (take 600) e ∙ ap (λ n. take n (s ++ y)) (sym full) ∙ take-append_seam s y in
+    let long : 600 ≤ length x = omega (arith, full, ap length e ∙ length-append s y) in
+    ap printed (sym front) ∙ printed_enough x long
+
+-- the first n bytes of an input tell what is printed, where n is 600 or nothing comes behind them
+front_tells : (n : ℕ) (s x y : List ℕ) → length s ≡ 600 → x ≡ take n s ++ y → (n < 600 → y ≡ []) → (n ≡ 600) ⊎ (n < 600)
+    → printed (take n s) ≡ printed x
+front_tells n s x y full e end (inl whole) =
+    let all : take n s ≡ s = take_all n s (omega (arith, full, whole)) in
+    ap printed all ∙ long_input s x y full (e ∙ ap (λ l. l ++ y) all)
+front_tells n s x y full e end (inr less) =
+    ap printed (sym (append-nil (take n s)) ∙ ap (λ l. take n s ++ l) (sym (end less)) ∙ sym e)
+
+-- so what is printed of the bytes that were read is printed of all that the input has
+pub prints : (a b o p : Option (List ℕ)) (n : ℕ) (s : List ℕ) → length s ≡ 600 → n ≤ 600
+    → Consumes a b (take n s) → (n < 600 → IsAtEnd b) → Appends o p (printed (take n s)) → IfSome a (λ xs. Appends o p (printed xs))
+prints None b o p n s full most taken end put = tt
+prints (Some x) None o p n s full most taken end put = absurd taken
+prints (Some x) (Some y) o p n s full most taken end put =
+    subst (Appends o p) (front_tells n s x y full taken end (eq-or-lt_of_le most)) put
