@@ -1,7 +1,7 @@
 -- The arrays of every record have their lengths. Assumes nothing.
-use mathlib.Core.Path.{◌≡◌, sym, ◌∙◌}
-use mathlib.Core.List.{List, [], ◌∷◌, map}
-use lib.ListN.{length, length-map}
+use mathlib.Core.Path.{◌≡◌}
+use mathlib.Core.List.{List, [], ◌∷◌}
+use lib.ListN.{length}
 use mir.Val.{Val}
 use denote.Array.{each}
 use denote.Laws.{Is}

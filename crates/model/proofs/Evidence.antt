@@ -14,7 +14,6 @@ use Rattle.model.proofs.Formed.{JobFormed}
 use Rattle.base.specs.Lists.{◌∈◌, SameSet}
 use Rattle.base.proofs.Lists.{same_is, one_none}
 use Rattle.base.proofs.Tests.{T-is, not_is}
-use Rattle.words.specs.Compare.{more}
 use Rattle.model.specs.Tables.{Row, OutputRow, Job, Database, WithinBounds, within, uses, part_of, rows_of}
 use Rattle.model.specs.Rows.{some_row, same_row}
 use Rattle.model.specs.Verdict.{uses_other, columns, tables_differ, witness2, witness3, witness4, kind1, kind2, kind3, kind4, kind_of, extract_rows, query_rows, Apart, AtMostOneRow, Evidence, answer, meets_extract, stored, meets_query}

@@ -18,7 +18,7 @@ use Rattle.base.proofs.Lists.{pairwise_refl, pairwise_length, filter_has, has_fi
 use Rattle.base.proofs.Tests.{stable}
 use Rattle.words.specs.Compare.{Op, less, at_most, equal, at_least, more, holds}
 use Rattle.words.proofs.Order.{eq_z_is, eq_z_refl, le_z_refl, le_z_trans, le_z_lt_z_trans, le_z_antisym, nle_z_le}
-use Rattle.model.specs.Tables.{Bounds, Row, Against, column, number, Comparison, value, operand, comparison_holds, clause_holds, inside, within, meets}
+use Rattle.model.specs.Tables.{Bounds, Row, Against, column, number, Comparison, value, operand, comparison_holds, clause_holds, inside, within}
 use Rattle.model.specs.Rows.{box, some_row}
 use Rattle.model.specs.Least.{at_most_row, is_least, least_row}
 use Rattle.model.proofs.Rows.{box_has, has_box, some_has, has_some}

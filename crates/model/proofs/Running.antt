@@ -14,7 +14,7 @@ use Rattle.base.specs.Lists.{◌∈◌, SameSet, Distinct, flat_map, find}
 use Rattle.base.specs.Options.{if_any}
 use Rattle.base.proofs.Lists.{find_some, find_none, flat_map_has, has_flat_map, once_has, has_once, once_distinct}
 use Rattle.base.proofs.Tests.{T-is}
-use Rattle.model.specs.Tables.{Row, OutputRow, Job, Database, WithinBounds, within, uses, combinations, rows_of, inside, TableRow}
+use Rattle.model.specs.Tables.{Row, OutputRow, Job, Database, WithinBounds, within, uses, combinations, rows_of, TableRow}
 use Rattle.model.specs.Rows.{box, some_row, same_row}
 use Rattle.model.specs.Verdict.{columns, kind_of, extract_rows, query_rows, answer, meets_extract, stored, meets_query}
 use Rattle.model.specs.Running.{fill_of, stands_in, run_of, MayGive, given}

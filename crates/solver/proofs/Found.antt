@@ -10,7 +10,7 @@ use lib.ListN.{length, get_or, replicate}
 use lib.IntN.{ℤ, pos}
 use lib.Dec.{T}
 use mir.Facts.{yes_and}
-use Rattle.base.specs.Lists.{all_of, at}
+use Rattle.base.specs.Lists.{all_of}
 use Rattle.base.specs.Options.{and_then, is_some}
 use Rattle.words.specs.Bias.{bias}
 use Rattle.words.specs.Word.{sign_bit}

@@ -1,5 +1,4 @@
 use mathlib.Core.Path.{refl, sym}
-use Prim.Native.Nat.{◌-◌}
 use lib.ListN.{get_or, take}
 use lib.Seq.{length-take-le, get_or-take}
 use lib.Dec.{eqb}

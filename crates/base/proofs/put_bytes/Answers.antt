@@ -1,9 +1,7 @@
-use Prim.Native.Nat.{◌-◌}
 use native.Mathlib.Omega.{arith}
-use lib.ListN.{length}
 use lib.Seq.{take-length}
 use Rattle.base.proofs.Bytes.{puts_length, turns_begin, turn_room, turn_next, turns_end}
-use Rattle.base.proofs.Lists.{itself, each_itself}
+use Rattle.base.proofs.Lists.{each_itself}
 use Rattle.base.proofs.put_bytes.Goals as goal
 
 pub loop-i-init : goal.loop-i-init

@@ -1,7 +1,5 @@
 use native.Mathlib.Omega.{arith}
-use Prim.Native.Nat.{◌-◌}
 use mathlib.Core.Path.{refl}
-use Rattle.zone.specs.Zone.{allows}
 use Rattle.breaking.specs.Breaking.{breakable}
 use Rattle.breaking.proofs.Ways.{some_way, next_way, no_way}
 use Rattle.breaking.proofs.Ahead.{after_asks}

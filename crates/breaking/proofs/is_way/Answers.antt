@@ -1,4 +1,3 @@
-use Prim.Native.Nat.{◌-◌}
 use Rattle.breaking.specs.Breaking.{same_constraint}
 use Rattle.breaking.proofs.Ways.{some_way, next_way, no_way}
 use Rattle.breaking.proofs.is_way.Goals as goal

@@ -1,9 +1,7 @@
 use borrow.Author.Rules.{rules}
 use native.Mathlib.Omega.{arith}
-use Prim.Native.Nat.{◌-◌}
 use mathlib.Core.Path.{◌≡◌, refl}
 use lib.ListN.{length}
-use Rattle.breaking.specs.Breaking.{breakable}
 use Rattle.breaking.proofs.Ahead.{ahead_asks, clause_met, clause_open, clauses_open}
 use Rattle.breaking.proofs.open_after.Goals as goal
 

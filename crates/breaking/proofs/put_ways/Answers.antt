@@ -1,5 +1,5 @@
 use native.Mathlib.Omega.{arith}
-use Prim.Native.Nat.{◌-◌, ◌≤◌}
+use Prim.Native.Nat.{◌≤◌}
 use lib.ListN.{length}
 use Rattle.job.proofs.Records.{six}
 use Rattle.conditions.proofs.Clauses.{comparison_done, comparison_next}

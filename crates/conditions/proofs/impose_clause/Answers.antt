@@ -1,6 +1,4 @@
 use native.Mathlib.Omega.{arith}
-use Prim.Native.Nat.{◌-◌}
-use lib.ListN.{length}
 use Rattle.job.proofs.Records.{six}
 use Rattle.solver.proofs.Progress.{at_start, at_end, next_fits, stops, goes_on, kept_length, still_length}
 use Rattle.conditions.proofs.Clauses.{comparison_done, comparison_next}

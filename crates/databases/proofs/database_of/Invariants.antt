@@ -4,7 +4,6 @@ use Prim.Native.Nat.{◌-◌}
 use lib.ListN.{length, replicate}
 use lib.IntN.{pos}
 use Rattle.base.proofs.Arrays.{Pass}
-use Rattle.model.specs.Tables.{value}
 use Rattle.databases.specs.Databases.{value_in}
 use Rattle.databases.proofs.database_of.Given as goal
 

@@ -1,10 +1,6 @@
 -- `databases::listed` meets its contract. Assumes nothing.
-use mathlib.Core.Path.{◌≡◌}
-use mathlib.Core.Bool.{Bool, false, cond}
 use native.Mathlib.Omega.{arith}
-use lib.ListN.{get_or}
 use Rattle.job.proofs.Records.{sized_expression}
-use Rattle.databases.specs.Listing.{listed_at}
 use Rattle.databases.proofs.Listing.{listed_out, listed_stored, listed_other}
 use Rattle.databases.proofs.listed.Goals as goal
 

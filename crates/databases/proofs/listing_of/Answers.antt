@@ -1,4 +1,3 @@
-use Prim.Native.Nat.{◌-◌}
 use native.Mathlib.Omega.{arith}
 use Rattle.base.proofs.Arrays.{pass_start, front_turn, front_padded}
 use Rattle.databases.specs.Listing.{listed_by}

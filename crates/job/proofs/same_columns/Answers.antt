@@ -1,7 +1,5 @@
-use mathlib.Core.Path.{refl, sym, ◌∙◌}
-use Prim.Native.Nat.{◌-◌}
+use mathlib.Core.Path.{refl}
 use native.Mathlib.Omega.{arith}
-use lib.ListN.{length, length-map}
 use Rattle.job.specs.Record.{no_column}
 use Rattle.job.specs.Same.{same_column}
 use Rattle.job.proofs.Alike.{entry_fails, entry_passes, entries_end}

@@ -1,9 +1,9 @@
 use native.Mathlib.Omega.{arith}
-use Prim.Native.Nat.{ℕ, ◌+◌, ◌-◌}
+use Prim.Native.Nat.{ℕ, ◌+◌}
 use mathlib.Core.Path.{refl, sym, ap, ◌∙◌}
 use Rattle.zone.specs.Zone.{allows}
 use Rattle.zone.specs.Array.{zone_in}
-use Rattle.search.proofs.Weighing.{counted, counted_most, counted_all, counted_taken, counted_left, count_asks}
+use Rattle.search.proofs.Weighing.{counted_most, counted_all, counted_taken, counted_left, count_asks}
 use Rattle.search.proofs.count_allowed.Goals as goal
 use Rattle.search.proofs.count_allowed.Goals.{else-allows, then-allows}
 

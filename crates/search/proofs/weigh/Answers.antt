@@ -1,5 +1,4 @@
 use native.Mathlib.Omega.{arith}
-use Prim.Native.Nat.{◌-◌}
 use Rattle.base.proofs.Arrays.{pass_start, front_turn, front_padded}
 use Rattle.search.proofs.Weighing.{weighed}
 use Rattle.search.proofs.weigh.Goals as goal

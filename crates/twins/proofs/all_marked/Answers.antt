@@ -1,5 +1,5 @@
 use native.Mathlib.Omega.{arith}
-use Prim.Native.Nat.{ℕ, ◌-◌}
+use Prim.Native.Nat.{ℕ}
 use lib.ListN.{get_or}
 use mathlib.Core.Path.{refl}
 use mathlib.Core.Bool.{Bool, false, ◌||◌}

@@ -3,7 +3,6 @@
 use Prim.Native.Nat.{ℕ, ◌+◌, ◌-◌, ◌≤◌}
 use mathlib.Core.Path.{◌≡◌}
 use lib.ListN.{length}
-use mathlib.Core.Path.{ap}
 use mathlib.Core.List.{List, map}
 use lib.ListN.{take}
 use Rattle.base.specs.Options.{and_then, first_of}

@@ -2,7 +2,6 @@
 use Prim.Native.Nat.{◌-◌, ◌≤◌}
 use mathlib.Core.Path.{◌≡◌}
 use lib.ListN.{length}
-use mathlib.Core.Path.{ap}
 use mathlib.Core.List.{[], map}
 use lib.ListN.{take}
 use Rattle.job.specs.Meaning.{bounds_of}

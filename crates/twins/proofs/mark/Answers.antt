@@ -1,8 +1,6 @@
 use native.Mathlib.Omega.{arith}
-use Prim.Native.Nat.{◌-◌}
 use mathlib.Core.Path.{◌∙◌}
 use Rattle.base.proofs.Arrays.{pass_start}
-use Rattle.zone.specs.Zone.{can_differ}
 use Rattle.twins.proofs.Marking.{marked_turn, marked_end, differ_node}
 use Rattle.twins.proofs.mark.Goals as goal
 

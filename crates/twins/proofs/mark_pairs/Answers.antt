@@ -1,11 +1,10 @@
 use native.Mathlib.Omega.{arith}
-use Prim.Native.Nat.{ℕ, ◌+◌, ◌-◌}
+use Prim.Native.Nat.{ℕ, ◌+◌}
 use mathlib.Core.Path.{◌≡◌}
 use lib.ListN.{length}
 use mathlib.Core.Path.{refl, sym, ap, ◌∙◌}
-use mathlib.Core.Logic.{⊎_elim, inl, inr}
+use mathlib.Core.Logic.{inl, inr}
 use mathlib.Core.List.{List}
-use lib.ListN.{take}
 use Rattle.base.specs.Lists.{at}
 use Rattle.base.proofs.Tests.{is_T}
 use Rattle.model.specs.Tables as model
@@ -15,7 +14,6 @@ use Rattle.job.proofs.Records.{sized_condition}
 use Rattle.zone.specs.Array.{zone_in}
 use Rattle.conditions.proofs.Pairs.{pairs_row, pair_asks, pair_in_array}
 use Rattle.twins.specs.Pairs.{if_differ}
-use Rattle.twins.specs.Marks.{marked}
 use Rattle.twins.proofs.Marking.{marked_differ}
 use Rattle.twins.proofs.Pairing.{marked_by, marks_start, marks_end, marks_settled, marks_turn}
 use Rattle.twins.proofs.mark_pairs.Goals as goal

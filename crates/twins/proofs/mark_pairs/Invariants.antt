@@ -3,12 +3,10 @@
 use Prim.Native.Nat.{ℕ, ◌+◌, ◌-◌, ◌≤◌}
 use mathlib.Core.Path.{◌≡◌}
 use lib.ListN.{length}
-use mathlib.Core.Path.{ap}
 use mathlib.Core.List.{List, map}
 use lib.ListN.{take}
 use Rattle.base.specs.Options.{is_some}
 use Rattle.base.specs.Lists.{at}
-use Rattle.model.specs.Tables as model
 use Rattle.job.specs.declared.Clause.{Clause}
 use Rattle.job.specs.declared.Condition.{Condition}
 use Rattle.job.specs.Meaning.{clause_of}

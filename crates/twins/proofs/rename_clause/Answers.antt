@@ -1,6 +1,5 @@
 use mathlib.Core.Path.{refl, ap}
 use mathlib.Core.List.{List}
-use Prim.Native.Nat.{◌-◌}
 use native.Mathlib.Omega.{arith}
 use Rattle.base.proofs.Arrays.{pass_start, front_turn, front_map}
 use Rattle.job.specs.declared.Comparison.{Comparison}

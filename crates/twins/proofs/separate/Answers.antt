@@ -1,8 +1,6 @@
 use native.Mathlib.Omega.{arith}
-use Prim.Native.Nat.{◌-◌}
 use lib.ListN.{length}
 use mathlib.Core.Path.{refl, ap, ◌∙◌}
-use Rattle.twins.specs.Pairs.{apart}
 use Rattle.twins.proofs.Separating.{twin_fits, impose_asks, stays, less_apart, more_apart, none_apart, no_columns}
 use Rattle.twins.specs.Pairs.{some_apart}
 use Rattle.twins.proofs.separate.Goals as goal

@@ -2,7 +2,6 @@
 use Prim.Native.Nat.{◌+◌, ◌-◌}
 use mathlib.Core.Path.{◌≡◌}
 use lib.ListN.{length}
-use mathlib.Core.Path.{ap}
 use lib.ListN.{drop}
 use Rattle.base.specs.Options.{first_of}
 use Rattle.base.specs.Lists.{at}

@@ -3,7 +3,6 @@ use Prim.Native.Nat.{◌-◌, ◌≤◌}
 use mathlib.Core.Path.{◌≡◌}
 use lib.ListN.{length}
 use lib.ListN.{take}
-use Rattle.words.proofs.Stored.{stored}
 use Rattle.twins.proofs.Twinned.{Both}
 use Rattle.twins.proofs.twins_of.Given as goal
 

@@ -1,5 +1,4 @@
 use mathlib.Core.Path.{refl}
-use Prim.Native.Nat.{◌-◌}
 use native.Mathlib.Omega.{arith}
 use Rattle.base.proofs.Arrays.{pass_start, pass_end, front_turn}
 use Rattle.zone.specs.Array.{copied}

@@ -1,4 +1,3 @@
-use Prim.Native.Nat.{◌-◌}
 use native.Mathlib.Omega.{arith}
 use Rattle.zone.proofs.Values.{compare_start, compare_end, compare_turn, compare_not, next_there}
 use Rattle.zone.proofs.has_values.Goals as goal

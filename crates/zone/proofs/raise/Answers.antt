@@ -1,4 +1,3 @@
-use Prim.Native.Nat.{◌-◌}
 use native.Mathlib.Omega.{arith}
 use Rattle.base.proofs.Arrays.{pass_start, pass_end}
 use Rattle.zone.proofs.Passes.{raised_turn}

@@ -1,4 +1,3 @@
-use Prim.Native.Nat.{◌-◌}
 use native.Mathlib.Omega.{arith}
 use Rattle.zone.proofs.Rows.{rows_start, rows_turn}
 use Rattle.zone.proofs.Turns.{box_asks, box_end}

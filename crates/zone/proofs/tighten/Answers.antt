@@ -1,5 +1,4 @@
 use mathlib.Core.Path.{◌∙◌}
-use Prim.Native.Nat.{◌-◌}
 use native.Mathlib.Omega.{arith}
 use Rattle.zone.proofs.Rows.{rows_start}
 use Rattle.zone.proofs.Turns.{ends_fit, row_asks, row_turn, row_left, tighten_end}

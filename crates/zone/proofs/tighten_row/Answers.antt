@@ -1,7 +1,5 @@
-use Prim.Native.Nat.{◌-◌}
 use native.Mathlib.Omega.{arith}
 use Rattle.base.proofs.Arrays.{pass_start, pass_end}
-use Rattle.zone.specs.Passes.{lowered}
 use Rattle.zone.proofs.Passes.{lowered_low, lowered_high, lowered_turn}
 use Rattle.zone.proofs.tighten_row.Goals as goal
 
