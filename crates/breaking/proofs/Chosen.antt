@@ -96,19 +96,19 @@ module _ {n : ℕ} {from to : List ℕ} {p : ℕ} {k : Choices} {ws o : List ℕ
             → Ends n (chosen (zone_in n from) (way_in ws p) rest) true f
         unfolding constrained
         lays {e} {f} g copy done =
-            let some_row_lem : allows z c ≡ true = passed look h in
+            let some_row : allows z c ≡ true = passed look h in
             let same : zone_in n e ≡ z = rw copy (zone_copied n from to u.in_array.small u.room) in
             let a = (constrain_asks copy).in_array in
             let lies : zone_in n f ≡ tightened z c =
-            rw (done, same, some_row_lem) (laid_is n e (tightened z c) a.room a.small (tight_zone some_row_lem) (tight_size some_row_lem)) in
-            rw (← way) (ends_some n f (rw lies (chosen_some z c rest (rw (some_row_lem, passed ahead g)))))
+            rw (done, same, some_row) (laid_is n e (tightened z c) a.room a.small (tight_zone some_row) (tight_size some_row)) in
+            rw (← way) (ends_some n f (rw lies (chosen_some z c rest (rw (some_row, passed ahead g)))))
 
 -- a zone that was chosen
 pub chosen_found : {n : ℕ} {from to : List ℕ} {p : ℕ} {k : Choices} {ws o : List ℕ} → Chooses n from to p k ws o
     → (rest : List (List Constraint)) {r : Bool} {e : List ℕ} → Ends n (chosen (zone_in n from) (way_in ws p) rest) r e
     → length e ≡ length to → r ≡ true → Found n (chosen (zone_in n from) (way_in ws p) rest) e
-chosen_found {n} {from} {p = p} {ws = ws} u rest (answer, lies) size some_row_lem =
-    let (y, is) = some_of (chosen (zone_in n from) (way_in ws p) rest) answer some_row_lem in
+chosen_found {n} {from} {p = p} {ws = ws} u rest (answer, lies) size some_row =
+    let (y, is) = some_of (chosen (zone_in n from) (way_in ws p) rest) answer some_row in
     let (allowed, tight) = chosen_from (zone_in n from) (way_in ws p) rest is in
     let there = lies y is in
     record {

@@ -36,7 +36,7 @@ pub record Found (n : ℕ) (o : Option Zone) (e : List ℕ) : Type 0 where
 
 -- what an answer tells: there is something
 pub some_of : {A : Type 0} {r : Bool} (o : Option A) → r ≡ is_some o → r ≡ true → (a : A) × (o ≡ some a)
-some_of {A} o told some_row_lem = go o (sym told ∙ some_row_lem)
+some_of {A} o told some_row = go o (sym told ∙ some_row)
   where
     go : (o : Option A) → is_some o ≡ true → (a : A) × (o ≡ some a)
     go none e = absurd (false≢true e)
@@ -54,8 +54,8 @@ ends_some n e is = (rw is, λ y found. some-injective (zone_in n e) y (sym is �
 
 -- what a search within the rows of a pair of clauses finds is what the whole search finds
 pub within : (n : ℕ) {i o : Option Zone} {r : Bool} (e : List ℕ) → Ends n i r e → r ≡ true → ((w : Zone) → i ≡ some w → o ≡ some w) → Ends n o true e
-within n {i} {o} {r} e ends some_row_lem found =
-    let (w, is) = some_of i ends.0 some_row_lem in
+within n {i} {o} {r} e ends some_row found =
+    let (w, is) = some_of i ends.0 some_row in
     ends_some n e (found w is ∙ ap some (sym (ends.1 w is)))
 
 -- ---- a list of comparisons that was imposed on the zone in an array; r and e are what was answered and left
@@ -80,8 +80,8 @@ module _ (n : ℕ) {d : List ℕ} (u : InArray (n + 1) d) (k : model.Clause) (fi
   -- where some row meets the list, its zone lies in any array with room whose zone is the one that is reached
   pub reached_found : {r : Bool} {e : List ℕ} → r ≡ is_some (imposed_all (zone_in (n + 1) d) k) → zone_in (n + 1) e ≡ reached (zone_in (n + 1) d) k
       → (n + 1) * 33 ≤ length e → r ≡ true → Found (n + 1) (imposed_all (zone_in (n + 1) d) k) e
-  reached_found told left room some_row_lem =
-      let (y, is) = some_of (imposed_all z k) told some_row_lem in
+  reached_found told left room some_row =
+      let (y, is) = some_of (imposed_all z k) told some_row in
       let (closed, same) = reached_closed n z k u.closed size fit in
       record {
         is = is ∙ ap some (sym (left ∙ reached_is z k y is));
@@ -109,7 +109,7 @@ module _ {n : ℕ} {z to : List ℕ} {c e : Clause} (u : LaysPair n z c e to) wh
 
   pub pair_found : {r : Bool} {y : List ℕ} → Paired n z c e r y → length y ≡ length to → r ≡ true
       → Found (n + 1) (imposed_all (zone_in (n + 1) z) (clause_of c ++ clause_of e)) y
-  pair_found is same some_row_lem = reached_found n u.in_array (clause_of c ++ clause_of e) fits is.0 is.1 (omega (arith, same, u.room)) some_row_lem
+  pair_found is same some_row = reached_found n u.in_array (clause_of c ++ clause_of e) fits is.0 is.1 (omega (arith, same, u.room)) some_row
 
   module _ {x : List ℕ} (copy : x ≡ copied (n + 1) z to) where
     there : zone_in (n + 1) x ≡ zone_in (n + 1) z
@@ -136,8 +136,8 @@ module _ {n : ℕ} {z to : List ℕ} {c e : Clause} (u : LaysPair n z c e to) wh
 
       pub pair_second : not r ≡ false → {s : Bool} {v : List ℕ} → (s ≡ is_some (imposed_all (zone_in (n + 1) y) (clause_of e)))
           × (v ≡ laid y (reached (zone_in (n + 1) y) (clause_of e))) → Paired n z c e s v
-      pair_second some_row_lem (told-2, left-2) =
-          let (w, is) = some_of (imposed_all (zone_in (n + 1) x) (clause_of c)) told (not-false r some_row_lem) in
+      pair_second some_row (told-2, left-2) =
+          let (w, is) = some_of (imposed_all (zone_in (n + 1) x) (clause_of c)) told (not-false r some_row) in
           let first : imposed_all (zone_in (n + 1) z) (clause_of c) ≡ some w =
           ap (λ (v : Zone). imposed_all v (clause_of c)) (sym there) ∙ is in
           let at-w : zone_in (n + 1) y ≡ w = left_zone n in_copy (clause_of c) u.first.fit left ∙ reached_is (zone_in (n + 1) x) (clause_of c) w is in (

@@ -55,7 +55,7 @@ module _ {n : ℕ} {z to : List ℕ} {k : Condition} (u : Meeting n z k to) (fou
     one_none no_row = rw is at (pair_nothing one_asks laid.0 no_row)
 
     pub one_found_lem : length y ≡ length out → r ≡ true → imposed_all (zone_in (n + 1) z) (clause_of (clause_at k q)) ≡ some (zone_in (n + 1) y)
-    one_found_lem kept some_row_lem = rw is at (pair_found one_asks laid kept some_row_lem).is
+    one_found_lem kept some_row = rw is at (pair_found one_asks laid kept some_row).is
 
 -- ---- pairs of clauses
 
@@ -140,7 +140,7 @@ module _ {n : ℕ} {k l : Condition} (u : ConditionFits n k) (v : ConditionFits 
 
       module _ {s : Bool} (y : List ℕ) (laid : Paired n z (clause_at k q) (clause_at l r) s y) (kept : length y ≡ length out) where
         pub pair_in_array : s ≡ true → InArray (n + 1) y
-        pair_in_array some_row_lem = (pair_found pair_asks laid kept some_row_lem).in_array
+        pair_in_array some_row = (pair_found pair_asks laid kept some_row).in_array
 
         -- f is what is done with the rows that meet both
         module _ (f : Zone → Option Zone) {o : Option Zone} (left : first_of (pairs_left k l q r) (λ c. and_then (imposed_all (zone_in (n + 1) z) c) f) ≡ o) where
@@ -153,10 +153,10 @@ module _ {n : ℕ} {k l : Condition} (u : ConditionFits n k) (v : ConditionFits 
           pub pair_without : s ≡ false → first_of (pairs_left k l q (r + 1)) (λ c. and_then (imposed_all (zone_in (n + 1) z) c) f) ≡ o
           pair_without no_row = onward (then_none f (pair_nothing pair_asks laid.0 no_row))
 
-          module _ (some_row_lem : s ≡ true) where
+          module _ (some_row : s ≡ true) where
             pub pair_passed : f (zone_in (n + 1) y) ≡ none → first_of (pairs_left k l q (r + 1)) (λ c. and_then (imposed_all (zone_in (n + 1) z) c) f) ≡ o
-            pair_passed e = onward (then_some f (pair_found pair_asks laid kept some_row_lem).is e)
+            pair_passed e = onward (then_some f (pair_found pair_asks laid kept some_row).is e)
 
             pub pair_with : {w : Zone} → f (zone_in (n + 1) y) ≡ some w → o ≡ some w
             pair_with e =
-                first_found by [] all (place l.size q r) left more (rw pair_at (then_some f (pair_found pair_asks laid kept some_row_lem).is e))
+                first_found by [] all (place l.size q r) left more (rw pair_at (then_some f (pair_found pair_asks laid kept some_row).is e))

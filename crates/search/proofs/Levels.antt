@@ -152,17 +152,17 @@ module _ {n : ℕ} {k : Choices} {ws o : List ℕ} {goal : Option Zone} {j : ℕ
 
       -- what the later clauses leave is found
       deeper : r ≡ true → (y : Zone) → broken (zone_in n e) (drop (suc j) ks) ≡ some y → goal ≡ some y
-      deeper some_row_lem y deep = l.wins y (stops (then_some later (found_there some_row_lem).is deep))
+      deeper some_row y deep = l.wins y (stops (then_some later (found_there some_row).is deep))
 
       -- the loop over the ways of the next clause begins
       pub turn_down : suc j < 4 → r ≡ true → Trying n k ws o goal (suc j) e 0 found
-      turn_down in-next some_row_lem = level_start l.ready (suc j) in-next (found_there some_row_lem).in_array (deeper some_row_lem) l.not_yet
+      turn_down in-next some_row = level_start l.ready (suc j) in-next (found_there some_row).in_array (deeper some_row) l.not_yet
 
       -- it ends with nothing
       pub turn_barren : {i' : ℕ} {found' found'' : Bool} → r ≡ true → Trying n k ws o goal (suc j) e i' found' → {lv' : Level} → lv' ≡ level_at k o (suc j)
           → lv'.count ≤ i' → found'' ≡ found' → Trying n k ws o goal j x (i + 1) found''
-      turn_barren some_row_lem next there past same =
-          goes_on (then_some later (found_there some_row_lem).is (level_end next there past)) (same ∙ next.not_yet)
+      turn_barren some_row next there past same =
+          goes_on (then_some later (found_there some_row).is (level_end next there past)) (same ∙ next.not_yet)
 
       -- it doesn't begin
       pub turn_shut : {found' : Bool} → r ≡ false → found' ≡ found → Trying n k ws o goal j x (i + 1) found'
@@ -170,9 +170,9 @@ module _ {n : ℕ} {k : Choices} {ws o : List ℕ} {goal : Option Zone} {j : ℕ
 
       -- a way of the last clause is taken: the search is over
       pub turn_ends : j ≡ 3 → r ≡ true → Ends n goal true e
-      turn_ends last some_row_lem =
+      turn_ends last some_row =
           let all-broken = drop_of_length-le ks {i = suc j} (omega (arith, order_length k ws o l.ready.order.four)) in
-          ends_some n e (deeper some_row_lem (zone_in n e) (rw all-broken))
+          ends_some n e (deeper some_row (zone_in n e) (rw all-broken))
 
 -- ---- the whole search: o is the order, a what the clauses weigh
 pub order_four : (a : List ℕ) {o : List ℕ} → o ≡ order_by a → Four o

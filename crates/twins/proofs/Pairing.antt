@@ -87,19 +87,19 @@ module _ {n : ℕ} {z : List ℕ} {k l : Condition} {w : ℕ} {twin out : List �
         ap is_some (pair_without u.searches.first u.searches.second four others h g u.searches.in_array y room e laid kept (sought c) refl no_row)
 
     with_pair : s ≡ true → (c : ℕ) → (is_some (sought c (zone_in (n + 1) e)) || left q (r + 1) c) ≡ left q r c
-    with_pair some_row_lem c = go (sought c (zone_in (n + 1) e)) refl
+    with_pair some_row c = go (sought c (zone_in (n + 1) e)) refl
       where
         go : (o : Option Zone) → sought c (zone_in (n + 1) e) ≡ o → (is_some o || left q (r + 1) c) ≡ left q r c
         go none i = ap is_some (pair_passed u.searches.first u.searches.second four others h g u.searches.in_array y room e laid kept (sought c)
-            refl some_row_lem i)
+            refl some_row i)
         go (some v) i = sym (ap is_some (pair_with u.searches.first u.searches.second four others h g u.searches.in_array y room e laid kept
-            (sought c) refl some_row_lem i))
+            (sought c) refl some_row i))
 
     pub marks_turn : w ≤ length marks → {new : List Bool}
         → ((s ≡ true) × (new ≡ marked w (λ c. is_some (if_differ c (at twin c) (zone_in (n + 1) e))) marks)) ⊎ ((s ≡ false) × (new ≡ marks))
         → marked_by (pairs_left k l q (r + 1)) (zone_in (n + 1) z) w (λ c. if_differ c (at twin c)) new
         ≡ marked_by (pairs_left k l q r) (zone_in (n + 1) z) w (λ c. if_differ c (at twin c)) marks
-    marks_turn enough (inl (some_row_lem, is)) = rw is (
+    marks_turn enough (inl (some_row, is)) = rw is (
         marked_marked (left q (r + 1)) (λ c. is_some (sought c (zone_in (n + 1) e))) marks w enough
-        ∙ marked_cong (λ c. is_some (sought c (zone_in (n + 1) e)) || left q (r + 1) c) (left q r) marks w (λ c l. with_pair some_row_lem c))
+        ∙ marked_cong (λ c. is_some (sought c (zone_in (n + 1) e)) || left q (r + 1) c) (left q r) marks w (λ c l. with_pair some_row c))
     marks_turn enough (inr (no_row, is)) = rw is (marked_cong (left q (r + 1)) (left q r) marks w (λ c l. without no_row c))

@@ -75,8 +75,8 @@ module _ {n : ℕ} {d cs twin : List ℕ} (u : Separates n d cs twin) (i : ℕ) 
         (sym (same_zone o) ∙ nothing, done.1 ∙ rw nothing (rw there (laid_zone (n + 1) d u.in_array.small)))
 
     found : (o : ℕ) {r : Bool} {f : List ℕ} → Imposed o r f → r ≡ true → imposed z (columns_by (op_at o) a b) ≡ some (zone_in (n + 1) f)
-    found o {r} {f} done some_row_lem =
-        let (y, is_y) = some_of (imposed (zone_in (n + 1) e) (comparison_of (coded o (at cs i) (at twin p)))) done.0 some_row_lem in
+    found o {r} {f} done some_row =
+        let (y, is_y) = some_of (imposed (zone_in (n + 1) e) (comparison_of (coded o (at cs i) (at twin p)))) done.0 some_row in
         let first : imposed z (columns_by (op_at o) a b) ≡ some y = sym (same_zone o) ∙ is_y in
         let there-y : f ≡ laid d y =
         done.1 ∙ ap (λ (q : Option Zone). laid e (kept (zone_in (n + 1) e) q)) is_y ∙ ap (λ (x : List ℕ). laid x y) there in
@@ -96,12 +96,12 @@ module _ {n : ℕ} {d cs twin : List ℕ} (u : Separates n d cs twin) (i : ℕ) 
 
       pub less_apart : {r : Bool} {f : List ℕ} → Imposed 0 r f → r ≡ true → Ends (n + 1) (some_apart (at twin) cs (zone_in (n + 1) d)) true f
       unfolding apart
-      less_apart {r} {f} done some_row_lem = let l = found 0 done some_row_lem in ends_some (n + 1) f (first_apart (rw l))
+      less_apart {r} {f} done some_row = let l = found 0 done some_row in ends_some (n + 1) f (first_apart (rw l))
 
       pub more_apart : {r : Bool} {f : List ℕ} → imposed (zone_in (n + 1) d) (columns_by less (at cs i) (at twin (at cs i))) ≡ none
           → Imposed 4 r f → r ≡ true → Ends (n + 1) (some_apart (at twin) cs (zone_in (n + 1) d)) true f
       unfolding apart
-      more_apart {r} {f} lower done some_row_lem = let l = found 4 done some_row_lem in ends_some (n + 1) f (first_apart (rw (lower, l)))
+      more_apart {r} {f} lower done some_row = let l = found 4 done some_row in ends_some (n + 1) f (first_apart (rw (lower, l)))
 
       pub none_apart : imposed (zone_in (n + 1) d) (columns_by less (at cs i) (at twin (at cs i))) ≡ none
           → imposed (zone_in (n + 1) d) (columns_by more (at cs i) (at twin (at cs i))) ≡ none

@@ -17,7 +17,7 @@ use Rattle.verdict.specs.Found.{without, one_kind, one_found, two_kind, two_foun
 
 -- what a search that found something tells: the zone lies in e
 there : (n : ℕ) {o : Option Zone} {r : Bool} (e : List ℕ) → Ends n o r e → r ≡ true → o ≡ some (zone_in n e)
-there n {o} e ends some_row_lem = let (y, is) = some_of o ends.0 some_row_lem in is ∙ ap some (sym (ends.1 y is))
+there n {o} e ends some_row = let (y, is) = some_of o ends.0 some_row in is ∙ ap some (sym (ends.1 y is))
 
 -- a kind, and the zone that shows it
 abbrev pub Shows : ℕ → ℕ → ℕ → Option Zone → List ℕ → Type 0
@@ -44,15 +44,15 @@ not_first false o is = refl
 module _ (n : ℕ) (z : Zone) (differ : Bool) (keeps wants : Condition) {r : Bool} (e : List ℕ) where
   pub shows_1 : differ ≡ true → Ends n (met z wants) r e → r ≡ true → Shows n 1 (one_kind z differ keeps wants) (one_found z differ keeps wants) e
   unfolding one_kind one_found
-  shows_1 d ends some_row_lem =
-      let is = there n e ends some_row_lem in
+  shows_1 d ends some_row =
+      let is = there n e ends some_row in
       (rw (d, is), lies_some n e (rw (d, is)))
 
   module _ (passed : Passed z differ wants) (ends : Ends n (without z always wants keeps) r e) where
     pub shows_2 : r ≡ true → Shows n 2 (one_kind z differ keeps wants) (one_found z differ keeps wants) e
     unfolding one_kind one_found
-    shows_2 some_row_lem =
-        let is = there n e ends some_row_lem in
+    shows_2 some_row =
+        let is = there n e ends some_row in
         (rw (not_first differ (met z wants) passed, is), lies_some n e (rw (passed, is)))
 
     pub shows_neither : r ≡ false → Shows n 0 (one_kind z differ keeps wants) (one_found z differ keeps wants) e
@@ -66,15 +66,15 @@ module _ (n : ℕ) (z : Zone) (keeps wants others : Condition) (apart : Zone →
   pub shows_3 : Ends n (without z keeps wants others) r e → r ≡ true
       → Shows n 3 (two_kind z keeps wants others apart) (two_found z keeps wants others apart) e
   unfolding two_kind two_found
-  shows_3 ends some_row_lem =
-      let is = there n e ends some_row_lem in
+  shows_3 ends some_row =
+      let is = there n e ends some_row in
       (rw is, lies_some n e (rw is))
 
   module _ (passed : without z keeps wants others ≡ none) (ends : Ends n (pairs_of z wants others apart) r e) where
     pub shows_4 : r ≡ true → Shows n 4 (two_kind z keeps wants others apart) (two_found z keeps wants others apart) e
     unfolding two_kind two_found
-    shows_4 some_row_lem =
-        let is = there n e ends some_row_lem in
+    shows_4 some_row =
+        let is = there n e ends some_row in
         (rw (passed, is), lies_some n e (rw (passed, is)))
 
     pub shows_none : r ≡ false → Shows n 0 (two_kind z keeps wants others apart) (two_found z keeps wants others apart) e

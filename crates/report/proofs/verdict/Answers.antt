@@ -1,6 +1,6 @@
 -- `report::verdict` meets its contract: the kind, the columns and the line's end, for which there is room. Assumes nothing.
-use Prim.Native.Nat.{ℕ, ◌≤◌, ◌<◌}
-use lib.ListN.{length, get_or}
+use Prim.Native.Nat.{◌≤◌}
+use lib.ListN.{length}
 use Rattle.report.specs.Text.{verdict_text}
 use Rattle.base.proofs.Bytes.{and_then_lem}
 use Rattle.report.proofs.Most.{verdict_fits}
