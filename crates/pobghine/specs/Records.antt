@@ -8,7 +8,7 @@ use Rattle.layout.specs.Writing.{job_bytes}
 use Rattle.pobghine.specs.declared.Written.{Written}
 use Rattle.pobghine.specs.declared.Written.TheVariants.{Count, Refused}
 
--- It means a well-formed job, and is that job's record, with zeros past each count. The theorem read-exactly says that these are the ones.
+-- It means a well-formed job, and is that job's record, with zeros past each count. The theorem read_exactly says that these are the ones.
 unfoldable pub is_read : Job → Bool
 is_read r = well_formed (meaning_of r) && same_job r (record_of (meaning_of r))
 

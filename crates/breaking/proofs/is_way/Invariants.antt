@@ -8,7 +8,8 @@ use Rattle.breaking.specs.Places.{ways_in}
 use Rattle.breaking.proofs.is_way.Given as goal
 
 abbrev pub invariant-loop-i : goal.invariant-loop-i
-invariant-loop-i l = any_of (same_constraint l.c) (drop l.i (ways_in l.ways l.from l.count)) ≡ any_of (same_constraint l.c) (ways_in l.ways l.from l.count)
+invariant-loop-i l = any_of (same_constraint l.c) (drop l.i (ways_in l.ways l.from l.count)) ≡ any_of (same_constraint l.c)
+    (ways_in l.ways l.from l.count)
 
 abbrev pub decreases-loop-i : goal.decreases-loop-i
 decreases-loop-i l = l.count - l.i

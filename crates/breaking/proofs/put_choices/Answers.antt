@@ -25,7 +25,12 @@ loop-q-preserved c =
     omega (arith, (sized_condition c.args.k _ c.well_formed.0).clauses, c.requires.0.clauses) in
     let inv = c.loop-q.invariant in
     let more = c.loop-q-test.true in
-    elim c.if-q-size.branch [ then-q-size w ↦ rw (w.ways-is, w.sizes-is) (lay_clause c.requires.0 fit inv more _ w.put_ways.auto.ways w.if-q-size.true (w.put_ways.ensures.ways, w.put_ways.ensures.before)) | else-q-size w ↦ rw (w.ways-is, w.sizes-is) (lay_spare c.requires.0 fit inv more _ w.put_way.auto.ways w.if-q-size.false w.free.ensures (w.put_way.ensures.ways, w.put_way.ensures.before)) ]
+    elim c.if-q-size.branch [
+      | then-q-size w ↦ rw (w.ways-is, w.sizes-is) (lay_clause c.requires.0 fit inv more _ w.put_ways.auto.ways
+          w.if-q-size.true (w.put_ways.ensures.ways, w.put_ways.ensures.before))
+      | else-q-size w ↦ rw (w.ways-is, w.sizes-is) (lay_spare
+          c.requires.0 fit inv more _ w.put_way.auto.ways w.if-q-size.false w.free.ensures (w.put_way.ensures.ways, w.put_way.ensures.before))
+    ]
 
 pub shape_of-ways : goal.shape_of-ways
 shape_of-ways c = c.loop-q.invariant.room ∙ sym c.requires.1

@@ -40,7 +40,8 @@ loop-i-preserved c =
     omega (arith, six c.args.c _ c.well_formed.1.1.0, c.requires.0) in
     let next = comparison_next c.args.c fit c.loop-i.i c.loop-i-test.true in
     put_turn c.loop-i.invariant _ _ next c.negations-p.ensures
-    (c.put_way-count.ensures.ways, c.put_way-count.ensures.before) c.put_way-count.auto.ways (c.put_way-count-in-loop-i.ensures.ways, c.put_way-count-in-loop-i.ensures.before) c.put_way-count-in-loop-i.auto.ways
+    (c.put_way-count.ensures.ways, c.put_way-count.ensures.before) c.put_way-count.auto.ways
+    (c.put_way-count-in-loop-i.ensures.ways, c.put_way-count-in-loop-i.ensures.before) c.put_way-count-in-loop-i.auto.ways
 
 pub shape_of-ways : goal.shape_of-ways
 shape_of-ways c = c.loop-i.invariant.size

@@ -8,7 +8,8 @@ use Rattle.solver.proofs.Progress.{Progress}
 use Rattle.conditions.proofs.impose_clause.Given as goal
 
 abbrev pub invariant-loop-i : goal.invariant-loop-i
-invariant-loop-i l = (l.i ≤ l.size) × (l.size ≤ 6) × (l.size ≤ length l.comparisons) × Progress l.columns (map comparison_of (take l.size l.comparisons)) l.initial.d l.i l.d
+invariant-loop-i l = (l.i ≤ l.size) × (l.size ≤ 6) × (l.size ≤ length l.comparisons) × Progress l.columns
+    (map comparison_of (take l.size l.comparisons)) l.initial.d l.i l.d
 
 abbrev pub decreases-loop-i : goal.decreases-loop-i
 decreases-loop-i l = l.size - l.i

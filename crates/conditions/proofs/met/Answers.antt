@@ -35,13 +35,19 @@ pub returns-then-lay_pair : goal.returns-then-lay_pair
 returns-then-lay_pair c =
     let four : length c.args.k.clauses ≡ 4 =
     (sized_condition c.args.k _ c.well_formed.1.1.0).clauses in
-    let r = ends_some _ _ (this_clause c.args.k (few c.requires.condition four) _ c.loop-q.q c.loop-q.invariant.1 c.loop-q-test.true (one_found_lem c.requires four c.nothing-nothing.ensures c.loop-q-test.true c.loop-q.out c.loop-q.invariant.0 _ (c.lay_pair.ensures.answer, c.lay_pair.ensures.zone) c.lay_pair.auto.to c.if-lay_pair.true)) in record { answer = r.0; zone = r.1 }
+    let r = ends_some _ _ (this_clause c.args.k (few c.requires.condition four) _ c.loop-q.q c.loop-q.invariant.1 c.loop-q-test.true
+    (one_found_lem c.requires four c.nothing-nothing.ensures c.loop-q-test.true c.loop-q.out c.loop-q.invariant.0 _
+    (c.lay_pair.ensures.answer, c.lay_pair.ensures.zone) c.lay_pair.auto.to c.if-lay_pair.true)) in record { answer = r.0; zone = r.1 }
 
 pub loop-q-preserved : goal.loop-q-preserved
 loop-q-preserved c =
     let four : length c.args.k.clauses ≡ 4 =
-    (sized_condition c.args.k _ c.well_formed.1.1.0).clauses in
-    (c.lay_pair.auto.to ∙ c.loop-q.invariant.0, next_clause c.args.k (few c.requires.condition four) _ c.loop-q.q c.loop-q.invariant.1 c.loop-q-test.true (one_none c.requires four c.nothing-nothing.ensures c.loop-q-test.true c.loop-q.out c.loop-q.invariant.0 _ (c.lay_pair.ensures.answer, c.lay_pair.ensures.zone) c.if-lay_pair.false))
+    (sized_condition c.args.k _ c.well_formed.1.1.0).clauses in (
+      c.lay_pair.auto.to ∙ c.loop-q.invariant.0,
+      next_clause c.args.k (few c.requires.condition four) _ c.loop-q.q c.loop-q.invariant.1
+          c.loop-q-test.true (one_none c.requires four c.nothing-nothing.ensures c.loop-q-test.true c.loop-q.out c.loop-q.invariant.0 _
+          (c.lay_pair.ensures.answer, c.lay_pair.ensures.zone) c.if-lay_pair.false),
+    )
 
 pub shape_of-out : goal.shape_of-out
 shape_of-out c = c.loop-q.invariant.0
@@ -50,4 +56,5 @@ pub returns : goal.returns
 returns c =
     let four : length c.args.k.clauses ≡ 4 =
     (sized_condition c.args.k _ c.well_formed.1.1.0).clauses in
-    let r = ends_none _ _ (no_clause_lem c.args.k (few c.requires.condition four) _ c.loop-q.q c.loop-q.invariant.1 c.loop-q-test.false) in record { answer = r.0; zone = r.1 }
+    let r = ends_none _ _ (no_clause_lem c.args.k (few c.requires.condition four) _ c.loop-q.q c.loop-q.invariant.1 c.loop-q-test.false) in
+    record { answer = r.0; zone = r.1 }

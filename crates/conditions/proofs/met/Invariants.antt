@@ -13,7 +13,8 @@ use Rattle.conditions.specs.Meeting.{met}
 use Rattle.conditions.proofs.met.Given as goal
 
 abbrev pub invariant-loop-q : goal.invariant-loop-q
-invariant-loop-q l = (length l.out ≡ length l.initial.out) × (first_of (drop l.q (map clause_of (take l.size l.clauses))) (imposed_all (zone_in (l.columns + 1) l.z)) ≡ met (zone_in (l.columns + 1) l.z) (map clause_of (take l.size l.clauses)))
+invariant-loop-q l = (length l.out ≡ length l.initial.out) × (first_of (drop l.q (map clause_of (take l.size l.clauses)))
+    (imposed_all (zone_in (l.columns + 1) l.z)) ≡ met (zone_in (l.columns + 1) l.z) (map clause_of (take l.size l.clauses)))
 
 abbrev pub decreases-loop-q : goal.decreases-loop-q
 decreases-loop-q l = l.size - l.q

@@ -14,7 +14,9 @@ unfolding same_column
 returns-then-not-same c =
     let a = c.args.a in
     let b = c.args.b in
-    rw (eq-eqb _ _ c.if-a-b.false) (and_fails _ (rw (stored a.lo (omega (arith, c.struct_told-1.given)), stored b.lo (omega (arith, c.struct_told-2-1.given))) at c.same.ensures) c.if-not-same.true-raw)
+    rw (eq-eqb _ _ c.if-a-b.false) (and_fails _
+    (rw (stored a.lo (omega (arith, c.struct_told-1.given)), stored b.lo (omega (arith, c.struct_told-2-1.given))) at c.same.ensures)
+    c.if-not-same.true-raw)
 
 pub returns : goal.returns
 unfolding same_column
@@ -22,5 +24,6 @@ returns c =
     let a = c.args.a in
     let b = c.args.b in
     rw (eq-eqb _ _ c.if-a-b.false)
-    (and_passes (rw (stored a.lo (omega (arith, c.struct_told-1.given)), stored b.lo (omega (arith, c.struct_told-2-1.given))) at c.same.ensures) c.if-not-same.false-raw
+    (and_passes (rw (stored a.lo (omega (arith, c.struct_told-1.given)), stored b.lo (omega (arith, c.struct_told-2-1.given))) at
+    c.same.ensures) c.if-not-same.false-raw
     (rw (stored a.hi (omega (arith, c.struct_told-3-1.given)), stored b.hi (omega (arith, c.struct_told-4-1.given))) at c.same-2.ensures))

@@ -22,4 +22,5 @@ returns c =
     let a = c.args.a in
     let b = c.args.b in
     rw (eq-eqb _ _ c.if-a-b.false, eq-eqb _ _ c.if-a-b-2.false, eq-eqb _ _ c.if-a-b-3.false)
-    (rw (stored a.number (omega (arith, c.struct_told-1.given)), stored b.number (omega (arith, c.struct_told-2-1.given))) at c.same.ensures)
+    (rw (stored a.number (omega (arith, c.struct_told-1.given)), stored b.number (omega (arith, c.struct_told-2-1.given))) at
+    c.same.ensures)

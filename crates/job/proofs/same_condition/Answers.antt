@@ -15,16 +15,19 @@ loop-i-init c = (omega arith, c.well_formed.0.1.1.1.0.1.0.1, c.well_formed.1.0.1
 
 pub returns-then-not-same_clause : goal.returns-then-not-same_clause
 unfolding same_condition
-returns-then-not-same_clause c = rw (eq-eqb _ _ c.if-a-b.false) (entry_fails same_clause (record { size = 0; comparisons = [] }) 4 _ _ c.loop-i.invariant.1 c.loop-i.invariant.2 _ c.loop-i.invariant.3 c.loop-i-test.true c.same_clause.ensures c.if-not-same_clause.true-raw)
+returns-then-not-same_clause c = rw (eq-eqb _ _ c.if-a-b.false) (entry_fails same_clause (record { size = 0; comparisons = [] }) 4 _ _
+    c.loop-i.invariant.1 c.loop-i.invariant.2 _ c.loop-i.invariant.3 c.loop-i-test.true c.same_clause.ensures c.if-not-same_clause.true-raw)
 
 pub loop-i-preserved : goal.loop-i-preserved
 loop-i-preserved c = (
   omega arith,
   c.loop-i.invariant.1,
   c.loop-i.invariant.2,
-  entry_passes same_clause (record { size = 0; comparisons = [] }) 4 _ _ c.loop-i.invariant.1 c.loop-i.invariant.2 _ c.loop-i.invariant.3 c.loop-i-test.true c.same_clause.ensures c.if-not-same_clause.false-raw,
+  entry_passes same_clause (record { size = 0; comparisons = [] }) 4 _ _ c.loop-i.invariant.1 c.loop-i.invariant.2 _ c.loop-i.invariant.3
+      c.loop-i-test.true c.same_clause.ensures c.if-not-same_clause.false-raw,
 )
 
 pub returns : goal.returns
 unfolding same_condition
-returns c = rw (eq-eqb _ _ c.if-a-b.false) (entries_end same_clause (record { size = 0; comparisons = [] }) 4 _ _ c.loop-i.invariant.1 c.loop-i.invariant.2 _ c.loop-i.invariant.3 c.loop-i-test.false)
+returns c = rw (eq-eqb _ _ c.if-a-b.false) (entries_end same_clause (record { size = 0; comparisons = [] }) 4 _ _ c.loop-i.invariant.1
+    c.loop-i.invariant.2 _ c.loop-i.invariant.3 c.loop-i-test.false)

@@ -13,7 +13,8 @@ returns-then-not-same_bytes c = rw (eq-eqb _ _ c.if-a-b.false) (and_fails _ c.sa
 
 pub returns-then-a-b-2 : goal.returns-then-a-b-2
 unfolding same_expression
-returns-then-a-b-2 c = rw (eq-eqb _ _ c.if-a-b.false) (and_passes c.same_bytes.ensures c.if-not-same_bytes.false-raw (rw (ne_eqb _ _ c.if-a-b-2.true)))
+returns-then-a-b-2 c = rw (eq-eqb _ _ c.if-a-b.false) (and_passes c.same_bytes.ensures c.if-not-same_bytes.false-raw
+    (rw (ne_eqb _ _ c.if-a-b-2.true)))
 
 pub returns-then-not-same_bytes-2 : goal.returns-then-not-same_bytes-2
 unfolding same_expression

@@ -17,7 +17,8 @@ use Rattle.listform.proofs.answer.Goals as goal
 module _ {n m : ℕ} {s : List ℕ} {code : ℕ} {row : List ℤ} where
   -- `solve` has the first n and m places of the arrays
   solved-at : {out : List ℕ} → Room n m s out
-      → Solved (length (take n (replicate 32 (pos 0)))) (length {A = ℕ} (take m (replicate 255 0))) s (take n (replicate 32 (pos 0))) code row
+      → Solved (length (take n (replicate 32 (pos 0)))) (length {A = ℕ} (take m (replicate 255 0))) s (take n (replicate 32 (pos 0))) code
+      row
       → Solved n m s (replicate n (pos 0)) code row
   solved-at r d =
       resized

@@ -13,8 +13,12 @@ pub loop-i-preserved : goal.loop-i-preserved
 loop-i-preserved c =
     let a = c.args in
     let l = c.loop-i in
-    let v = stored (get_or a.row.now l.i (pos 0)) (omega arith) in
-    (search rules, search rules, rw c.write.ensures (put_more a.first a.row.now l.i l.out _ c.loop-i-test.true (omega (arith, l.invariant)) v l.invariant.2))
+    let v = stored (get_or a.row.now l.i (pos 0)) (omega arith) in (
+      search rules,
+      search rules,
+      rw c.write.ensures (put_more a.first a.row.now l.i l.out _ c.loop-i-test.true (omega (arith, l.invariant))
+          v l.invariant.2),
+    )
 
 pub returns : goal.returns
 returns c =

@@ -8,7 +8,8 @@ use Rattle.words.specs.Word.{encoded}
 use Rattle.listform.proofs.put.Given as goal
 
 abbrev pub invariant-loop-i : goal.invariant-loop-i
-invariant-loop-i l = (length l.out ≡ length l.row * 4 + 1) × (l.i ≤ length l.row) × (take (l.i * 4 + 1) l.out ≡ l.first ∷ flat_map (take l.i l.row) (encoded 4))
+invariant-loop-i l = (length l.out ≡ length l.row * 4 + 1) × (l.i ≤ length l.row) ×
+    (take (l.i * 4 + 1) l.out ≡ l.first ∷ flat_map (take l.i l.row) (encoded 4))
 
 abbrev pub decreases-loop-i : goal.decreases-loop-i
 decreases-loop-i l = length l.row - l.i

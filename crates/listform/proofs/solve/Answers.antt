@@ -18,4 +18,5 @@ pub returns : goal.returns
 returns c =
     let p = c.decode.ensures in
     let s = c.least_row in
-    solved p (sym (parts_listed p) ∙ sym c.fitting.ensures ∙ c.if-not-fitting.false) (omega (arith, s.auto, c.requires.room)) s.ensures.answer s.ensures.row c.one_or_zero.ensures
+    solved p (sym (parts_listed p) ∙ sym c.fitting.ensures ∙ c.if-not-fitting.false) (omega (arith, s.auto, c.requires.room))
+    s.ensures.answer s.ensures.row c.one_or_zero.ensures

@@ -6,7 +6,8 @@ use Rattle.pobghine.proofs.decide.Goals as goal
 
 pub returns-then-not-is_read : goal.returns-then-not-is_read
 returns-then-not-is_read c =
-    let told = refused_told c.args.job (sym c.is_read.ensures ∙ not-true _ c.if-not-is_read.true-raw) c.no_database-none.ensures c.no_database-none.ensures in
+    let told = refused_told c.args.job (sym c.is_read.ensures ∙ not-true _ c.if-not-is_read.true-raw) c.no_database-none.ensures
+    c.no_database-none.ensures in
     record { answer = told.0; listing = told.1.0; databases = told.1.1 }
 
 pub decide-v-requires : goal.decide-v-requires

@@ -34,5 +34,6 @@ returns c =
     let a = c.args in
     let fits : length (refusal_text a.number a.at) ≤ length a.out.now =
     refusal_fits a.number a.at a.out.now c.ranges.number.fits c.ranges.at.fits (omega (arith, c.requires)) in
-    let put = refusal_put a.number a.at a.out.now fits (and_then_lem (and_then_lem c.put_field-p.ensures c.put_field-q.ensures) c.put.ensures) in
+    let put = refusal_put a.number a.at a.out.now fits (and_then_lem (and_then_lem c.put_field-p.ensures c.put_field-q.ensures)
+    c.put.ensures) in
     record { count = put.0; bytes = put.1 }

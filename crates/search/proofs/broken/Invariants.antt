@@ -23,19 +23,22 @@ abbrev pub decreases-four : goal.decreases-four
 decreases-four l = l.four.count - l.d
 
 abbrev pub invariant-three : goal.invariant-three
-invariant-three l = (Trying l.n l.k l.ways l.order (answer l.x l.n l.ways l.k) 2 l.v l.c l.found) × (length l.w ≡ length l.initial.w) × (length l.out ≡ length l.initial.out)
+invariant-three l = (Trying l.n l.k l.ways l.order (answer l.x l.n l.ways l.k) 2 l.v l.c l.found) × (length l.w ≡ length l.initial.w) ×
+    (length l.out ≡ length l.initial.out)
 
 abbrev pub decreases-three : goal.decreases-three
 decreases-three l = l.three.count - l.c
 
 abbrev pub invariant-two : goal.invariant-two
-invariant-two l = (Trying l.n l.k l.ways l.order (answer l.x l.n l.ways l.k) 1 l.y l.b l.found) × (length l.v ≡ length l.initial.v) × (length l.w ≡ length l.initial.w) × (length l.out ≡ length l.initial.out)
+invariant-two l = (Trying l.n l.k l.ways l.order (answer l.x l.n l.ways l.k) 1 l.y l.b l.found) × (length l.v ≡ length l.initial.v) ×
+    (length l.w ≡ length l.initial.w) × (length l.out ≡ length l.initial.out)
 
 abbrev pub decreases-two : goal.decreases-two
 decreases-two l = l.two.count - l.b
 
 abbrev pub invariant-one : goal.invariant-one
-invariant-one l = (Trying l.n l.k l.ways l.order (answer l.x l.n l.ways l.k) 0 l.x l.a l.found) × (length l.y ≡ length l.initial.y) × (length l.v ≡ length l.initial.v) × (length l.w ≡ length l.initial.w) × (length l.out ≡ length l.initial.out)
+invariant-one l = (Trying l.n l.k l.ways l.order (answer l.x l.n l.ways l.k) 0 l.x l.a l.found) × (length l.y ≡ length l.initial.y) ×
+    (length l.v ≡ length l.initial.v) × (length l.w ≡ length l.initial.w) × (length l.out ≡ length l.initial.out)
 
 abbrev pub decreases-one : goal.decreases-one
 decreases-one l = l.one.count - l.a

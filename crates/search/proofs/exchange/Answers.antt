@@ -22,7 +22,10 @@ pub bounds-weights-first : goal.bounds-weights-first
 bounds-weights-first c = c.requires.0 c.args.i (omega (arith, c.requires.1))
 
 pub returns-then-weights-second : goal.returns-then-weights-second
-returns-then-weights-second c = (let l : length c.args.order ≡ 4 = search (rules, c.well_formed.0) in rw (← (add-one c.args.i)) at (exchanged_swaps c.args.weights c.args.i c.args.order (omega (arith, l, c.requires.1)) (rw (add-one c.args.i) at (lt-ltb _ _ c.if-weights-second.true))))
+returns-then-weights-second c = (let l : length c.args.order ≡ 4 = search (rules, c.well_formed.0) in rw (← (add-one c.args.i)) at
+    (exchanged_swaps c.args.weights c.args.i c.args.order (omega (arith, l, c.requires.1))
+    (rw (add-one c.args.i) at (lt-ltb _ _ c.if-weights-second.true))))
 
 pub returns : goal.returns
-returns c = (let l : length c.args.order ≡ 4 = search (rules, c.well_formed.0) in exchanged_stays c.args.weights c.args.i c.args.order (omega (arith, l, c.requires.1)) (rw (add-one c.args.i) at (le-ltb _ _ c.if-weights-second.false)))
+returns c = (let l : length c.args.order ≡ 4 = search (rules, c.well_formed.0) in exchanged_stays c.args.weights c.args.i c.args.order
+    (omega (arith, l, c.requires.1)) (rw (add-one c.args.i) at (le-ltb _ _ c.if-weights-second.false)))

@@ -26,7 +26,12 @@ abbrev sought : List ℕ → Choices → Zone → Option Zone
 sought ways k y = broken_by y k.clauses (choices_in k ways)
 
 pub first-init : goal.first-init
-first-init c = (refl, (refl, refl, refl, refl, refl), pairs_start (zone_in (c.args.columns + 1) c.args.z.now) c.args.a c.args.b (sought c.args.ways.now c.args.k))
+first-init c = (
+  refl,
+  (refl, refl, refl, refl, refl),
+  pairs_start (zone_in (c.args.columns + 1) c.args.z.now) c.args.a c.args.b
+      (sought c.args.ways.now c.args.k),
+)
 
 pub second-init : goal.second-init
 second-init c = (c.first.invariant.0, (refl, refl, refl, refl, refl), omega arith, c.first.invariant.2)
@@ -55,7 +60,8 @@ lay_pair-requires c =
     (sized_condition c.args.a _ c.well_formed.1.1.0).clauses in
     let other-four : length c.args.b.clauses ≡ 4 =
     (sized_condition c.args.b _ c.well_formed.1.1.1.0).clauses in
-    pair_asks c.requires.searches.first c.requires.searches.second four other-four c.first-test.true c.second-test.true c.requires.searches.in_array c.second.x (omega (arith, c.second.invariant.1.0, c.first.invariant.1.0, c.requires.pair))
+    pair_asks c.requires.searches.first c.requires.searches.second four other-four c.first-test.true c.second-test.true
+    c.requires.searches.in_array c.second.x (omega (arith, c.second.invariant.1.0, c.first.invariant.1.0, c.requires.pair))
 
 pub overflow_add-columns : goal.overflow_add-columns
 overflow_add-columns c = omega (arith, c.requires.searches.in_array.small)
@@ -66,7 +72,31 @@ broken-requires c =
     (sized_condition c.args.a _ c.well_formed.1.1.0).clauses in
     let other-four : length c.args.b.clauses ≡ 4 =
     (sized_condition c.args.b _ c.well_formed.1.1.1.0).clauses in
-    record { weighs = record { in_array = pair_in_array c.requires.searches.first c.requires.searches.second four other-four c.first-test.true c.second-test.true c.requires.searches.in_array c.second.x (omega (arith, c.second.invariant.1.0, c.first.invariant.1.0, c.requires.pair)) _ (c.lay_pair.ensures.answer, c.lay_pair.ensures.zone) c.lay_pair.auto.to c.if-lay_pair.true; size = c.requires.size; choices = c.requires.choices; few = c.requires.few }; room = record { first = omega (arith, c.second.invariant.1.1, c.first.invariant.1.1, c.requires.room.first); second = omega (arith, c.second.invariant.1.2, c.first.invariant.1.2, c.requires.room.second); third = omega (arith, c.second.invariant.1.3, c.first.invariant.1.3, c.requires.room.third); found = omega (arith, c.second.invariant.1.4, c.first.invariant.1.4, c.requires.room.found) } }
+    record {
+      weighs = record {
+        in_array = pair_in_array c.requires.searches.first c.requires.searches.second four other-four
+            c.first-test.true c.second-test.true c.requires.searches.in_array c.second.x
+            (omega (arith, c.second.invariant.1.0, c.first.invariant.1.0, c.requires.pair)) _
+            (c.lay_pair.ensures.answer, c.lay_pair.ensures.zone) c.lay_pair.auto.to c.if-lay_pair.true;
+        size = c.requires.size;
+        choices =
+            c.requires.choices;
+        few = c.requires.few;
+      };
+      room = record {
+        first = omega (
+          arith,
+          c.second.invariant.1.1,
+          c.first.invariant.1.1,
+          c.requires.room.first,
+        );
+        second = omega (arith, c.second.invariant.1.2, c.first.invariant.1.2, c.requires.room.second);
+        third = omega
+            (arith, c.second.invariant.1.3, c.first.invariant.1.3, c.requires.room.third);
+        found = omega
+            (arith, c.second.invariant.1.4, c.first.invariant.1.4, c.requires.room.found);
+      };
+    }
 
 pub second-preserved : goal.second-preserved
 second-preserved c =
@@ -74,10 +104,56 @@ second-preserved c =
     (sized_condition c.args.a _ c.well_formed.1.1.0).clauses in
     let other-four : length c.args.b.clauses ≡ 4 =
     (sized_condition c.args.b _ c.well_formed.1.1.1.0).clauses in
-    elim c.if-lay_pair.branch [ then-lay_pair+else-broken s ↦ (c.second.invariant.0, (c.lay_pair.auto.to ∙ c.second.invariant.1.0, ap length s.y-is ∙ s.broken.auto.y ∙ c.second.invariant.1.1, ap length s.v-is ∙ s.broken.auto.v ∙ c.second.invariant.1.2, ap length s.w-is ∙ s.broken.auto.w ∙ c.second.invariant.1.3, ap length s.out-is ∙ s.broken.auto.out ∙ c.second.invariant.1.4), omega arith, pair_passed c.requires.searches.first c.requires.searches.second four other-four c.first-test.true c.second-test.true c.requires.searches.in_array c.second.x (omega (arith, c.second.invariant.1.0, c.first.invariant.1.0, c.requires.pair)) _ (c.lay_pair.ensures.answer, c.lay_pair.ensures.zone) c.lay_pair.auto.to _ c.second.invariant.3 s.if-lay_pair.true (none_of _ s.broken.ensures.answer s.if-broken.false)) | else-lay_pair s ↦ (c.second.invariant.0, (c.lay_pair.auto.to ∙ c.second.invariant.1.0, ap length s.y-is ∙ c.second.invariant.1.1, ap length s.v-is ∙ c.second.invariant.1.2, ap length s.w-is ∙ c.second.invariant.1.3, ap length s.out-is ∙ c.second.invariant.1.4), omega arith, pair_without c.requires.searches.first c.requires.searches.second four other-four c.first-test.true c.second-test.true c.requires.searches.in_array c.second.x (omega (arith, c.second.invariant.1.0, c.first.invariant.1.0, c.requires.pair)) _ (c.lay_pair.ensures.answer, c.lay_pair.ensures.zone) c.lay_pair.auto.to _ c.second.invariant.3 s.if-lay_pair.false) ]
+    elim c.if-lay_pair.branch [
+      | then-lay_pair+else-broken s ↦ (
+        c.second.invariant.0,
+        (
+          c.lay_pair.auto.to ∙ c.second.invariant.1.0,
+          ap length s.y-is ∙ s.broken.auto.y ∙ c.second.invariant.1.1,
+          ap
+              length s.v-is ∙ s.broken.auto.v ∙ c.second.invariant.1.2,
+          ap length s.w-is ∙ s.broken.auto.w ∙ c.second.invariant.1.3,
+          ap length
+              s.out-is ∙ s.broken.auto.out ∙ c.second.invariant.1.4,
+        ),
+        omega arith,
+        pair_passed c.requires.searches.first
+            c.requires.searches.second four other-four c.first-test.true c.second-test.true c.requires.searches.in_array c.second.x
+            (omega (arith, c.second.invariant.1.0, c.first.invariant.1.0, c.requires.pair)) _
+            (c.lay_pair.ensures.answer, c.lay_pair.ensures.zone) c.lay_pair.auto.to _ c.second.invariant.3 s.if-lay_pair.true
+            (none_of _ s.broken.ensures.answer s.if-broken.false),
+      )
+      | else-lay_pair s ↦ (
+        c.second.invariant.0,
+        (
+          c.lay_pair.auto.to ∙ c.second.invariant.1.0,
+          ap length s.y-is ∙ c.second.invariant.1.1,
+          ap length s.v-is ∙ c.second.invariant.1.2,
+          ap length s.w-is ∙ c.second.invariant.1.3,
+          ap length s.out-is ∙ c.second.invariant.1.4,
+        ),
+        omega arith,
+        pair_without
+            c.requires.searches.first c.requires.searches.second four other-four c.first-test.true c.second-test.true
+            c.requires.searches.in_array c.second.x (omega (arith, c.second.invariant.1.0, c.first.invariant.1.0, c.requires.pair)) _
+            (c.lay_pair.ensures.answer, c.lay_pair.ensures.zone) c.lay_pair.auto.to _ c.second.invariant.3 s.if-lay_pair.false,
+      )
+    ]
 
 pub first-preserved : goal.first-preserved
-first-preserved c = (c.second.invariant.0, (c.second.invariant.1.0 ∙ c.first.invariant.1.0, c.second.invariant.1.1 ∙ c.first.invariant.1.1, c.second.invariant.1.2 ∙ c.first.invariant.1.2, c.second.invariant.1.3 ∙ c.first.invariant.1.3, c.second.invariant.1.4 ∙ c.first.invariant.1.4), rw (← (pairs_row c.args.a c.args.b c.first.q c.second.r (omega (arith, c.second.invariant.2, c.second-test.false)))) c.second.invariant.3)
+first-preserved c = (
+  c.second.invariant.0,
+  (
+    c.second.invariant.1.0 ∙ c.first.invariant.1.0,
+    c.second.invariant.1.1 ∙ c.first.invariant.1.1,
+    c.second.invariant.1.2 ∙ c.first.invariant.1.2,
+    c.second.invariant.1.3 ∙ c.first.invariant.1.3,
+    c.second.invariant.1.4 ∙
+        c.first.invariant.1.4,
+  ),
+  rw (← (pairs_row c.args.a c.args.b c.first.q c.second.r
+      (omega (arith, c.second.invariant.2, c.second-test.false)))) c.second.invariant.3,
+)
 
 pub shape_of-x-after-first : goal.shape_of-x-after-first
 shape_of-x-after-first c = c.first.invariant.1.0
@@ -101,7 +177,9 @@ returns-after-first c =
     (sized_condition c.args.a _ c.well_formed.1.1.0).clauses in
     let other-four : length c.args.b.clauses ≡ 4 =
     (sized_condition c.args.b _ c.well_formed.1.1.1.0).clauses in
-    let r : Ends (c.args.columns + 1) _ c.first.found c.first.out = rw c.first.invariant.0 (ends_none _ _ (no_pair c.requires.searches.first c.requires.searches.second four other-four _ c.first.invariant.2 c.first-test.false)) in record { answer = r.0; zone = r.1 }
+    let r : Ends (c.args.columns + 1) _ c.first.found c.first.out = rw c.first.invariant.0
+    (ends_none _ _ (no_pair c.requires.searches.first c.requires.searches.second four other-four _ c.first.invariant.2
+    c.first-test.false)) in record { answer = r.0; zone = r.1 }
 
 pub shape_of-x-then-broken : goal.shape_of-x-then-broken
 shape_of-x-then-broken c = c.lay_pair.auto.to ∙ c.second.invariant.1.0 ∙ c.first.invariant.1.0
@@ -125,4 +203,10 @@ returns-then-broken c =
     (sized_condition c.args.a _ c.well_formed.1.1.0).clauses in
     let other-four : length c.args.b.clauses ≡ 4 =
     (sized_condition c.args.b _ c.well_formed.1.1.1.0).clauses in
-    let r = within (c.args.columns + 1) _ (c.broken.ensures.answer, c.broken.ensures.zone) c.if-broken.true (λ u. pair_with c.requires.searches.first c.requires.searches.second four other-four c.first-test.true c.second-test.true c.requires.searches.in_array c.second.x (omega (arith, c.second.invariant.1.0, c.first.invariant.1.0, c.requires.pair)) _ (c.lay_pair.ensures.answer, c.lay_pair.ensures.zone) c.lay_pair.auto.to _ c.second.invariant.3 c.if-lay_pair.true) in record { answer = r.0; zone = r.1 }
+    let r = within (c.args.columns + 1) _ (c.broken.ensures.answer, c.broken.ensures.zone) c.if-broken.true
+    (λ u. pair_with c.requires.searches.first c.requires.searches.second four other-four c.first-test.true c.second-test.true
+    c.requires.searches.in_array c.second.x (omega (arith, c.second.invariant.1.0, c.first.invariant.1.0, c.requires.pair)) _
+    (c.lay_pair.ensures.answer, c.lay_pair.ensures.zone) c.lay_pair.auto.to _ c.second.invariant.3 c.if-lay_pair.true) in record {
+      answer = r.0;
+      zone = r.1;
+    }

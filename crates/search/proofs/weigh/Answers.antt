@@ -16,7 +16,11 @@ pub bounds-sizes-q : goal.bounds-sizes-q
 bounds-sizes-q c = omega (arith, c.requires.few)
 
 pub count_allowed-requires : goal.count_allowed-requires
-count_allowed-requires c = record { in_array = c.requires.in_array; ways = c.requires.choices c.loop-q.q (omega (arith, c.loop-q.invariant.0, c.loop-q-test.true)) }
+count_allowed-requires c = record {
+  in_array = c.requires.in_array;
+  ways = c.requires.choices c.loop-q.q
+      (omega (arith, c.loop-q.invariant.0, c.loop-q-test.true));
+}
 
 pub offset_bounds-weights-q : goal.offset_bounds-weights-q
 offset_bounds-weights-q c = omega (arith, c.loop-q.invariant.0)

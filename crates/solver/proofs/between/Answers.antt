@@ -15,4 +15,11 @@ pub returns-in-3 : goal.returns-in-3
 returns-in-3 c = rw (c.one-in-3.ensures, c.in-3.is)
 
 pub returns-in_default : goal.returns-in_default
-returns-in_default c = rw (c.one-in_default.ensures, ne_eqb _ 0 c.in_default.in_default-own.rest.0.0.0.1, ne_eqb _ 1 c.in_default.in_default-own.rest.0.0.1, ne_eqb _ 2 c.in_default.in_default-own.rest.0.1, ne_eqb _ 3 c.in_default.in_default-own.rest.1)
+returns-in_default c = rw (
+  c.one-in_default.ensures,
+  ne_eqb _ 0 c.in_default.in_default-own.rest.0.0.0.1,
+  ne_eqb _ 1
+      c.in_default.in_default-own.rest.0.0.1,
+  ne_eqb _ 2 c.in_default.in_default-own.rest.0.1,
+  ne_eqb _ 3 c.in_default.in_default-own.rest.1,
+)

@@ -19,4 +19,5 @@ pub shape_of-row : goal.shape_of-row
 shape_of-row c = c.loop-i.invariant.size
 
 pub returns : goal.returns
-returns c = front_end c.loop-i.invariant (omega (arith, c.loop-i.invariant.size, c.loop-i-test.false)) refl ∙ tabulate_same (length c.args.row.now) (pos 0)
+returns c = front_end c.loop-i.invariant (omega (arith, c.loop-i.invariant.size, c.loop-i-test.false)) refl ∙ tabulate_same
+    (length c.args.row.now) (pos 0)

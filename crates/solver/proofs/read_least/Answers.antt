@@ -28,10 +28,16 @@ pub least-requires : goal.least-requires
 least-requires c = record { in_array = c.requires.in_array; size = length-take-le _ _ (omega (arith, c.requires.in_array.small)) }
 
 pub slice_bounds-x-end-2 : goal.slice_bounds-x-end-2
-slice_bounds-x-end-2 c = omega (arith, length-append c.least.new.x (drop (length c.args.row.now + 1) (replicate 33 0)), row_size _ _ _ c.requires.in_array c.least.ensures)
+slice_bounds-x-end-2 c = omega (
+  arith,
+  length-append c.least.new.x (drop (length c.args.row.now + 1) (replicate 33 0)),
+  row_size _ _ _
+      c.requires.in_array c.least.ensures,
+)
 
 pub slice_bounds-from_nodes-end : goal.slice_bounds-from_nodes-end
-slice_bounds-from_nodes-end c = sym (ap (λ (y : List ℕ). length y) (part_is _ _ _ c.requires.in_array c.least.ensures) ∙ row_size _ _ _ c.requires.in_array c.least.ensures)
+slice_bounds-from_nodes-end c = sym (ap (λ (y : List ℕ). length y) (part_is _ _ _ c.requires.in_array c.least.ensures) ∙ row_size _ _ _
+    c.requires.in_array c.least.ensures)
 
 pub from_nodes-requires : goal.from_nodes-requires
 from_nodes-requires c = rw (part_is _ _ _ c.requires.in_array c.least.ensures, c.least.ensures) c.requires.words

@@ -60,6 +60,12 @@ returns c =
     let s = c.args in
     let u = c.requires in record {
       zone = c.set_box.ensures ∙
-          rw (part_is s.lo.now (length _ + 1) refl _ (drop (length _ + 1) (replicate 33 0)) c.to_nodes.ensures.nodes, part_is s.hi.now (length _ + 1) (ap (λ (n : ℕ). n + 1) u.same) _ (drop (length _ + 1) (replicate 33 0)) c.to_nodes-2.ensures.nodes, box_is _ _ _ u);
+          rw (
+            part_is s.lo.now (length _ + 1) refl _ (drop (length _ + 1) (replicate 33 0)) c.to_nodes.ensures.nodes,
+            part_is s.hi.now
+                (length _ + 1) (ap (λ (n : ℕ). n + 1) u.same) _ (drop (length _ + 1) (replicate 33 0)) c.to_nodes-2.ensures.nodes,
+            box_is _ _
+                _ u,
+          );
       words = (c.to_nodes.ensures.words, c.to_nodes-2.ensures.words);
     }

@@ -39,4 +39,8 @@ loop-i-preserved c =
 pub returns : goal.returns
 returns c =
     let s = c.args in
-    let l = c.loop-i in record { nodes = front_list 0 (nodes s.v.now) l.invariant.1 (omega (arith, c.loop-i-test.false)) (sym l.invariant.1.size ∙ l.invariant.0) (nodes_size s.v.now); words = λ p h. l.invariant.2 p (omega (arith, c.loop-i-test.false)) }
+    let l = c.loop-i in record {
+      nodes = front_list 0 (nodes s.v.now) l.invariant.1 (omega (arith, c.loop-i-test.false))
+          (sym l.invariant.1.size ∙ l.invariant.0) (nodes_size s.v.now);
+      words = λ p h. l.invariant.2 p (omega (arith, c.loop-i-test.false));
+    }

@@ -11,7 +11,8 @@ use Rattle.solver.specs.Solver.{nodes}
 use Rattle.solver.proofs.to_nodes.Given as goal
 
 abbrev pub invariant-loop-i : goal.invariant-loop-i
-invariant-loop-i l = (length l.x ≡ length l.v + 1) × Pass (at (nodes l.v)) 0 (length l.v + 1) (l.i + 1) l.initial.x l.x × ((p : ℕ) → p < l.i → mag (get_or l.v p (pos 0)) < 2147483648)
+invariant-loop-i l = (length l.x ≡ length l.v + 1) × Pass (at (nodes l.v)) 0 (length l.v + 1) (l.i + 1) l.initial.x l.x ×
+    ((p : ℕ) → p < l.i → mag (get_or l.v p (pos 0)) < 2147483648)
 
 abbrev pub decreases-loop-i : goal.decreases-loop-i
 decreases-loop-i l = length l.v - l.i

@@ -26,10 +26,28 @@ pub bounds-twins-c : goal.bounds-twins-c
 bounds-twins-c c = omega (arith, c.requires.0)
 
 pub returns-then-wide-c : goal.returns-then-wide-c
-returns-then-wide-c c = all_fails (settled c.args.marks.now c.args.twin) 0 (range c.args.width) c.loop-c.c c.loop-c.invariant.1 (omega (arith, tabulate_length c.args.width (λ k. k), c.loop-c-test.true)) (rw (tabulate_at c.args.width (λ k. k) c.loop-c.c 0 c.loop-c-test.true, not-true (get_or c.args.marks.now c.loop-c.c false) c.if-not-marks-c.true-raw) (rw c.wide.ensures.0 at (ne_eqb _ _ c.if-wide-c.true)))
+returns-then-wide-c c = all_fails (settled c.args.marks.now c.args.twin) 0 (range c.args.width) c.loop-c.c c.loop-c.invariant.1
+    (omega (arith, tabulate_length c.args.width (λ k. k), c.loop-c-test.true))
+    (rw (
+      tabulate_at c.args.width (λ k. k) c.loop-c.c 0 c.loop-c-test.true,
+      not-true (get_or c.args.marks.now c.loop-c.c false)
+          c.if-not-marks-c.true-raw,
+    ) (rw c.wide.ensures.0 at (ne_eqb _ _ c.if-wide-c.true)))
 
 pub loop-c-preserved : goal.loop-c-preserved
-loop-c-preserved c = (omega arith, all_more (settled c.args.marks.now c.args.twin) 0 (range c.args.width) c.loop-c.c c.loop-c.invariant.1 (omega (arith, tabulate_length c.args.width (λ k. k), c.loop-c-test.true)) (rw (tabulate_at c.args.width (λ k. k) c.loop-c.c 0 c.loop-c-test.true) (elim c.if-not-marks-c.branch [ then-not-marks-c+else-wide-c w ↦ rw (not-true (get_or c.args.marks.now c.loop-c.c false) w.if-not-marks-c.true-raw) (rw w.wide.ensures.0 at (eq-eqb _ _ w.if-wide-c.false)) | else-not-marks-c w ↦ rw (not-false (get_or c.args.marks.now c.loop-c.c false) w.if-not-marks-c.false-raw) ])))
+loop-c-preserved c = (
+  omega arith,
+  all_more (settled c.args.marks.now c.args.twin) 0 (range c.args.width) c.loop-c.c c.loop-c.invariant.1
+      (omega (arith, tabulate_length c.args.width (λ k. k), c.loop-c-test.true))
+      (rw (tabulate_at c.args.width (λ k. k) c.loop-c.c 0 c.loop-c-test.true)
+      (elim c.if-not-marks-c.branch [
+        | then-not-marks-c+else-wide-c w ↦ rw (not-true (get_or c.args.marks.now c.loop-c.c false)
+            w.if-not-marks-c.true-raw) (rw w.wide.ensures.0 at (eq-eqb _ _ w.if-wide-c.false))
+        | else-not-marks-c w ↦ rw (not-false
+            (get_or c.args.marks.now c.loop-c.c false) w.if-not-marks-c.false-raw)
+      ])),
+)
 
 pub returns : goal.returns
-returns c = all_done (settled c.args.marks.now c.args.twin) 0 (range c.args.width) c.loop-c.c c.loop-c.invariant.1 (omega (arith, tabulate_length c.args.width (λ k. k), c.loop-c-test.false))
+returns c = all_done (settled c.args.marks.now c.args.twin) 0 (range c.args.width) c.loop-c.c c.loop-c.invariant.1
+    (omega (arith, tabulate_length c.args.width (λ k. k), c.loop-c-test.false))

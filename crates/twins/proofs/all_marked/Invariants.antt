@@ -14,7 +14,8 @@ abbrev settled : List Bool → List ℕ → ℕ → Bool
 settled marks twins c = get_or marks c false || eqb (at twins c) c
 
 abbrev pub invariant-loop-c : goal.invariant-loop-c
-invariant-loop-c l = (l.c ≤ l.width) × (all_of (settled l.marks l.twins) (drop l.c (range l.width)) ≡ all_of (settled l.marks l.twins) (range l.width))
+invariant-loop-c l = (l.c ≤ l.width) × (all_of (settled l.marks l.twins) (drop l.c (range l.width)) ≡ all_of (settled l.marks l.twins)
+    (range l.width))
 
 abbrev pub decreases-loop-c : goal.decreases-loop-c
 decreases-loop-c l = l.width - l.c

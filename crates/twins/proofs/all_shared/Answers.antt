@@ -19,10 +19,12 @@ pub bounds-twins-wide : goal.bounds-twins-wide
 bounds-twins-wide c = omega (arith, c.wide.ensures.0, c.requires c.loop-i.i c.loop-i-test.true)
 
 pub returns-then-twins-wide : goal.returns-then-twins-wide
-returns-then-twins-wide c = all_fails (shared c.args.twin) 0 c.args.cs.now c.loop-i.i c.loop-i.invariant c.loop-i-test.true (rw c.wide.ensures.0 at (ne_eqb _ _ c.if-twins-wide.true))
+returns-then-twins-wide c = all_fails (shared c.args.twin) 0 c.args.cs.now c.loop-i.i c.loop-i.invariant c.loop-i-test.true
+    (rw c.wide.ensures.0 at (ne_eqb _ _ c.if-twins-wide.true))
 
 pub loop-i-preserved : goal.loop-i-preserved
-loop-i-preserved c = all_more (shared c.args.twin) 0 c.args.cs.now c.loop-i.i c.loop-i.invariant c.loop-i-test.true (rw c.wide.ensures.0 at (eq-eqb _ _ c.if-twins-wide.false))
+loop-i-preserved c = all_more (shared c.args.twin) 0 c.args.cs.now c.loop-i.i c.loop-i.invariant c.loop-i-test.true
+    (rw c.wide.ensures.0 at (eq-eqb _ _ c.if-twins-wide.false))
 
 pub returns : goal.returns
 returns c = all_done (shared c.args.twin) 0 c.args.cs.now c.loop-i.i c.loop-i.invariant c.loop-i-test.false

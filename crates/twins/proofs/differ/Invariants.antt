@@ -21,13 +21,19 @@ abbrev condition : ℕ → List Clause → Condition
 condition n cs = record { size = n; clauses = cs }
 
 abbrev pub invariant-second : goal.invariant-second
-invariant-second l = (length l.out ≡ length l.initial.out) × (l.r ≤ l.others) × (first_of (pairs_left (condition l.size l.first) (condition l.others l.second) l.q l.r) (λ c. and_then (imposed_all (zone_in (l.columns + 1) l.z) c) (some_apart (at l.twin) l.cs)) ≡ pairs_of (zone_in (l.columns + 1) l.z) (map clause_of (take l.size l.first)) (map clause_of (take l.others l.second)) (some_apart (at l.twin) l.cs))
+invariant-second l = (length l.out ≡ length l.initial.out) × (l.r ≤ l.others) ×
+    (first_of (pairs_left (condition l.size l.first) (condition l.others l.second) l.q l.r)
+    (λ c. and_then (imposed_all (zone_in (l.columns + 1) l.z) c) (some_apart (at l.twin) l.cs)) ≡ pairs_of (zone_in (l.columns + 1) l.z)
+    (map clause_of (take l.size l.first)) (map clause_of (take l.others l.second)) (some_apart (at l.twin) l.cs))
 
 abbrev pub decreases-second : goal.decreases-second
 decreases-second l = l.others - l.r
 
 abbrev pub invariant-loop-q : goal.invariant-loop-q
-invariant-loop-q l = (length l.out ≡ length l.initial.out) × (first_of (pairs_left (condition l.size l.first) (condition l.others l.second) l.q 0) (λ c. and_then (imposed_all (zone_in (l.columns + 1) l.z) c) (some_apart (at l.twin) l.cs)) ≡ pairs_of (zone_in (l.columns + 1) l.z) (map clause_of (take l.size l.first)) (map clause_of (take l.others l.second)) (some_apart (at l.twin) l.cs))
+invariant-loop-q l = (length l.out ≡ length l.initial.out) ×
+    (first_of (pairs_left (condition l.size l.first) (condition l.others l.second) l.q 0)
+    (λ c. and_then (imposed_all (zone_in (l.columns + 1) l.z) c) (some_apart (at l.twin) l.cs)) ≡ pairs_of (zone_in (l.columns + 1) l.z)
+    (map clause_of (take l.size l.first)) (map clause_of (take l.others l.second)) (some_apart (at l.twin) l.cs))
 
 abbrev pub decreases-loop-q : goal.decreases-loop-q
 decreases-loop-q l = l.size - l.q

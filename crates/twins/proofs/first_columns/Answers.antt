@@ -21,7 +21,11 @@ pub bounds-t-m : goal.bounds-t-m
 bounds-t-m c = (first_room c.args.k.columns c.loop-c.c (omega (arith, c.loop-c.invariant.2)) c.loop-c.invariant.3)
 
 pub offset_bounds-t-m-in-loop-c : goal.offset_bounds-t-m-in-loop-c
-offset_bounds-t-m-in-loop-c c = omega (arith, (first_room c.args.k.columns c.loop-c.c (omega (arith, c.loop-c.invariant.2)) c.loop-c.invariant.3))
+offset_bounds-t-m-in-loop-c c = omega (
+  arith,
+  (first_room c.args.k.columns c.loop-c.c (omega (arith, c.loop-c.invariant.2))
+      c.loop-c.invariant.3),
+)
 
 pub bounds-t-m-in-loop-c : goal.bounds-t-m-in-loop-c
 bounds-t-m-in-loop-c c = (first_room c.args.k.columns c.loop-c.c (omega (arith, c.loop-c.invariant.2)) c.loop-c.invariant.3)
@@ -30,7 +34,16 @@ pub overflow_add-t : goal.overflow_add-t
 overflow_add-t c = omega (arith, (first_room c.args.k.columns c.loop-c.c (omega (arith, c.loop-c.invariant.2)) c.loop-c.invariant.3))
 
 pub loop-c-preserved : goal.loop-c-preserved
-loop-c-preserved c = (omega arith, c.loop-c.invariant.1, c.loop-c.invariant.2, rw (stored _ c.struct_told-1.given.1.0.1, stored _ c.struct_told-1.given.1.1.0.1) (first_more c.args.k.columns c.loop-c.c (omega (arith, c.loop-c.invariant.2)) c.loop-c.invariant.3 _ (omega (arith, c.loop-c.invariant.2, c.loop-c.invariant.1, c.loop-c-test.true))))
+loop-c-preserved c = (
+  omega arith,
+  c.loop-c.invariant.1,
+  c.loop-c.invariant.2,
+  rw
+      (stored _ c.struct_told-1.given.1.0.1, stored _ c.struct_told-1.given.1.1.0.1)
+      (first_more c.args.k.columns c.loop-c.c (omega (arith, c.loop-c.invariant.2)) c.loop-c.invariant.3 _
+      (omega (arith, c.loop-c.invariant.2, c.loop-c.invariant.1, c.loop-c-test.true))),
+)
 
 pub returns : goal.returns
-returns c = let all : c.loop-c.c ≡ c.args.k.width = omega (arith, c.loop-c.invariant.0, c.loop-c-test.false) in c.loop-c.invariant.3 ∙ ap (λ (m : ℕ). twins_of (map bounds_of (take m c.args.k.columns)) []) all
+returns c = let all : c.loop-c.c ≡ c.args.k.width = omega (arith, c.loop-c.invariant.0, c.loop-c-test.false) in c.loop-c.invariant.3 ∙ ap
+    (λ (m : ℕ). twins_of (map bounds_of (take m c.args.k.columns)) []) all

@@ -14,7 +14,12 @@ pub overflow_add-wide : goal.overflow_add-wide
 overflow_add-wide c = omega (arith, c.wide.ensures.0, c.requires.paired.second_in c.loop-c.c c.loop-c-test.true, c.requires.in_array.small)
 
 pub can_differ-differ-requires : goal.can_differ-differ-requires
-can_differ-differ-requires c = record { in_array = c.requires.in_array; first = omega (arith, c.requires.paired.first_in); second = omega (arith, c.wide.ensures.0, c.requires.paired.second_in c.loop-c.c c.loop-c-test.true) }
+can_differ-differ-requires c = record {
+  in_array = c.requires.in_array;
+  first = omega (arith, c.requires.paired.first_in);
+  second = omega
+      (arith, c.wide.ensures.0, c.requires.paired.second_in c.loop-c.c c.loop-c-test.true);
+}
 
 pub bounds-marks-c : goal.bounds-marks-c
 bounds-marks-c c = omega (arith, c.requires.paired.small, c.loop-c.invariant.size, c.requires.sixteen)

@@ -23,7 +23,12 @@ abbrev condition : ℕ → List Clause → Condition
 condition n cs = record { size = n; clauses = cs }
 
 pub loop-q-init : goal.loop-q-init
-loop-q-init c = (refl, c.requires.sixteen, marks_start (zone_in (c.args.columns + 1) c.args.z.now) c.args.k c.args.l (λ i. if_differ i (at c.args.twin i)) c.args.marks.now c.args.width)
+loop-q-init c = (
+  refl,
+  c.requires.sixteen,
+  marks_start (zone_in (c.args.columns + 1) c.args.z.now) c.args.k c.args.l
+      (λ i. if_differ i (at c.args.twin i)) c.args.marks.now c.args.width,
+)
 
 pub second-init : goal.second-init
 second-init c = (refl, c.loop-q.invariant.1, omega arith, refl)
@@ -43,7 +48,8 @@ returns-then-all_marked c =
     (sized_condition c.args.k _ c.well_formed.1.1.0).clauses in
     let other-four : length c.args.l.clauses ≡ 4 =
     (sized_condition c.args.l _ c.well_formed.1.1.1.0).clauses in
-    sym (marks_settled c.requires four other-four c.loop-q.q c.second.r c.second.marks (is_T (sym c.all_marked.ensures ∙ c.if-all_marked.true))) ∙ c.second.invariant.3 ∙ c.loop-q.invariant.2
+    sym (marks_settled c.requires four other-four c.loop-q.q c.second.r c.second.marks
+    (is_T (sym c.all_marked.ensures ∙ c.if-all_marked.true))) ∙ c.second.invariant.3 ∙ c.loop-q.invariant.2
 
 pub offset_bounds-first-q : goal.offset_bounds-first-q
 offset_bounds-first-q c = omega (arith, c.requires.searches.first.small.clauses)
@@ -69,7 +75,8 @@ lay_pair-requires c =
     (sized_condition c.args.k _ c.well_formed.1.1.0).clauses in
     let other-four : length c.args.l.clauses ≡ 4 =
     (sized_condition c.args.l _ c.well_formed.1.1.1.0).clauses in
-    pair_asks c.requires.searches.first c.requires.searches.second four other-four c.loop-q-test.true c.second-test.true c.requires.searches.in_array c.second.y (omega (arith, c.second.invariant.0, c.loop-q.invariant.0, c.requires.room))
+    pair_asks c.requires.searches.first c.requires.searches.second four other-four c.loop-q-test.true c.second-test.true
+    c.requires.searches.in_array c.second.y (omega (arith, c.second.invariant.0, c.loop-q.invariant.0, c.requires.room))
 
 pub mark-requires : goal.mark-requires
 mark-requires c =
@@ -77,18 +84,47 @@ mark-requires c =
     (sized_condition c.args.k _ c.well_formed.1.1.0).clauses in
     let other-four : length c.args.l.clauses ≡ 4 =
     (sized_condition c.args.l _ c.well_formed.1.1.1.0).clauses in
-    record { in_array = pair_in_array c.requires.searches.first c.requires.searches.second four other-four c.loop-q-test.true c.second-test.true c.requires.searches.in_array c.second.y (omega (arith, c.second.invariant.0, c.loop-q.invariant.0, c.requires.room)) _ (c.lay_pair.ensures.answer, c.lay_pair.ensures.zone) c.lay_pair.auto.to c.if-lay_pair.true; paired = c.requires.paired; sixteen = c.second.invariant.1 }
+    record {
+      in_array = pair_in_array c.requires.searches.first c.requires.searches.second four other-four c.loop-q-test.true
+          c.second-test.true c.requires.searches.in_array c.second.y
+          (omega (arith, c.second.invariant.0, c.loop-q.invariant.0, c.requires.room)) _ (c.lay_pair.ensures.answer, c.lay_pair.ensures.zone)
+          c.lay_pair.auto.to c.if-lay_pair.true;
+      paired = c.requires.paired;
+      sixteen = c.second.invariant.1;
+    }
 
 pub second-preserved : goal.second-preserved
 second-preserved c =
     let four : length c.args.k.clauses ≡ 4 =
     (sized_condition c.args.k _ c.well_formed.1.1.0).clauses in
     let other-four : length c.args.l.clauses ≡ 4 =
-    (sized_condition c.args.l _ c.well_formed.1.1.1.0).clauses in
-    (c.lay_pair.auto.to ∙ c.second.invariant.0, elim c.if-lay_pair.branch [ then-lay_pair w ↦ ap length w.marks-is ∙ w.mark.auto.marks ∙ c.second.invariant.1 | else-lay_pair w ↦ ap length w.marks-is ∙ c.second.invariant.1 ], omega arith, marks_turn c.requires four other-four c.loop-q-test.true c.second-test.true c.second.y (omega (arith, c.second.invariant.0, c.loop-q.invariant.0, c.requires.room)) _ (c.lay_pair.ensures.answer, c.lay_pair.ensures.zone) c.lay_pair.auto.to c.second.marks (omega (arith, c.second.invariant.1, c.requires.paired.small)) (elim c.if-lay_pair.branch [ then-lay_pair w ↦ inl (w.if-lay_pair.true, w.marks-is ∙ w.mark.ensures ∙ marked_differ _ _ _ _) | else-lay_pair w ↦ inr (w.if-lay_pair.false, w.marks-is) ]) ∙ c.second.invariant.3)
+    (sized_condition c.args.l _ c.well_formed.1.1.1.0).clauses in (
+      c.lay_pair.auto.to ∙ c.second.invariant.0,
+      elim c.if-lay_pair.branch [
+        | then-lay_pair w ↦ ap length w.marks-is ∙ w.mark.auto.marks ∙
+            c.second.invariant.1
+        | else-lay_pair w ↦ ap length w.marks-is ∙ c.second.invariant.1
+      ],
+      omega arith,
+      marks_turn c.requires four
+          other-four c.loop-q-test.true c.second-test.true c.second.y
+          (omega (arith, c.second.invariant.0, c.loop-q.invariant.0, c.requires.room)) _ (c.lay_pair.ensures.answer, c.lay_pair.ensures.zone)
+          c.lay_pair.auto.to c.second.marks (omega (arith, c.second.invariant.1, c.requires.paired.small))
+          (elim c.if-lay_pair.branch [
+            | then-lay_pair w ↦ inl (w.if-lay_pair.true, w.marks-is ∙ w.mark.ensures ∙ marked_differ _ _ _ _)
+            | else-lay_pair w ↦ inr (w.if-lay_pair.false, w.marks-is)
+          ]) ∙ c.second.invariant.3,
+    )
 
 pub loop-q-preserved : goal.loop-q-preserved
-loop-q-preserved c = (c.second.invariant.0 ∙ c.loop-q.invariant.0, c.second.invariant.1, ap (λ (p : model.Condition). marked_by p (zone_in (c.args.columns + 1) c.args.z.now) c.args.width (λ i. if_differ i (at c.args.twin i)) c.second.marks) (sym (pairs_row c.args.k c.args.l c.loop-q.q c.second.r (omega (arith, c.second.invariant.2, c.second-test.false)))) ∙ c.second.invariant.3 ∙ c.loop-q.invariant.2)
+loop-q-preserved c = (
+  c.second.invariant.0 ∙ c.loop-q.invariant.0,
+  c.second.invariant.1,
+  ap
+      (λ (p : model.Condition). marked_by p (zone_in (c.args.columns + 1) c.args.z.now) c.args.width (λ i. if_differ i (at c.args.twin i))
+      c.second.marks) (sym (pairs_row c.args.k c.args.l c.loop-q.q c.second.r (omega (arith, c.second.invariant.2, c.second-test.false)))) ∙
+      c.second.invariant.3 ∙ c.loop-q.invariant.2,
+)
 
 pub shape_of-y : goal.shape_of-y
 shape_of-y c = c.loop-q.invariant.0

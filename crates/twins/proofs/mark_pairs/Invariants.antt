@@ -22,13 +22,20 @@ abbrev condition : ℕ → List Clause → Condition
 condition n cs = record { size = n; clauses = cs }
 
 abbrev pub invariant-second : goal.invariant-second
-invariant-second l = (length l.y ≡ length l.initial.y) × (length l.marks ≡ 16) × (l.r ≤ l.others) × (marked_by (pairs_left (condition l.size l.first) (condition l.others l.second) l.q l.r) (zone_in (l.columns + 1) l.z) l.width (λ c. if_differ c (at l.twin c)) l.marks ≡ marked_by (pairs_left (condition l.size l.first) (condition l.others l.second) l.q 0) (zone_in (l.columns + 1) l.z) l.width (λ c. if_differ c (at l.twin c)) l.initial.marks)
+invariant-second l = (length l.y ≡ length l.initial.y) × (length l.marks ≡ 16) × (l.r ≤ l.others) ×
+    (marked_by (pairs_left (condition l.size l.first) (condition l.others l.second) l.q l.r) (zone_in (l.columns + 1) l.z) l.width
+    (λ c. if_differ c (at l.twin c)) l.marks ≡ marked_by (pairs_left (condition l.size l.first) (condition l.others l.second) l.q 0)
+    (zone_in (l.columns + 1) l.z) l.width (λ c. if_differ c (at l.twin c)) l.initial.marks)
 
 abbrev pub decreases-second : goal.decreases-second
 decreases-second l = l.others - l.r
 
 abbrev pub invariant-loop-q : goal.invariant-loop-q
-invariant-loop-q l = (length l.y ≡ length l.initial.y) × (length l.marks ≡ 16) × (marked_by (pairs_left (condition l.size l.first) (condition l.others l.second) l.q 0) (zone_in (l.columns + 1) l.z) l.width (λ c. if_differ c (at l.twin c)) l.marks ≡ marked l.width (λ c. is_some (pairs_of (zone_in (l.columns + 1) l.z) (map clause_of (take l.size l.first)) (map clause_of (take l.others l.second)) (if_differ c (at l.twin c)))) l.initial.marks)
+invariant-loop-q l = (length l.y ≡ length l.initial.y) × (length l.marks ≡ 16) ×
+    (marked_by (pairs_left (condition l.size l.first) (condition l.others l.second) l.q 0) (zone_in (l.columns + 1) l.z) l.width
+    (λ c. if_differ c (at l.twin c)) l.marks ≡ marked l.width
+    (λ c. is_some (pairs_of (zone_in (l.columns + 1) l.z) (map clause_of (take l.size l.first)) (map clause_of (take l.others l.second))
+    (if_differ c (at l.twin c)))) l.initial.marks)
 
 abbrev pub decreases-loop-q : goal.decreases-loop-q
 decreases-loop-q l = l.size - l.q

@@ -22,8 +22,13 @@ pub rename_clause-requires : goal.rename_clause-requires
 rename_clause-requires c = record { compares = c.requires.compares _ c.loop-q-test.true; names = c.requires.names }
 
 pub loop-q-preserved : goal.loop-q-preserved
-loop-q-preserved c = (c.loop-q.invariant.0, front_turn c.loop-q.invariant.1 (omega (arith, c.loop-q.invariant.0, c.loop-q-test.true)) c.rename_clause.ensures)
+loop-q-preserved c = (
+  c.loop-q.invariant.0,
+  front_turn c.loop-q.invariant.1 (omega (arith, c.loop-q.invariant.0, c.loop-q-test.true))
+      c.rename_clause.ensures,
+)
 
 pub returns : goal.returns
 unfolding renamed_condition
-returns c = ap (with c.args.k.size) (front_map _ none c.args.k.clauses c.loop-q.invariant.1 (omega (arith, c.loop-q.invariant.0, c.loop-q-test.false)) refl)
+returns c = ap (with c.args.k.size) (front_map _ none c.args.k.clauses c.loop-q.invariant.1
+    (omega (arith, c.loop-q.invariant.0, c.loop-q-test.false)) refl)

@@ -17,7 +17,8 @@ abbrev with : ℕ → List Clause → Condition
 with n cs = record { size = n; clauses = cs }
 
 abbrev pub invariant-loop-q : goal.invariant-loop-q
-invariant-loop-q l = (length l.given ≡ 4) × Pass (λ i. renamed_clause l.twin (get_or l.given i none)) 0 (length l.given) l.q l.given l.clauses
+invariant-loop-q l = (length l.given ≡ 4) × Pass (λ i. renamed_clause l.twin (get_or l.given i none)) 0 (length l.given) l.q l.given
+    l.clauses
 
 abbrev pub decreases-loop-q : goal.decreases-loop-q
 decreases-loop-q l = 4 - l.q

@@ -8,7 +8,8 @@ use Rattle.twins.specs.Records.{renamed_one}
 use Rattle.twins.proofs.rename_clause.Given as goal
 
 abbrev pub invariant-loop-i : goal.invariant-loop-i
-invariant-loop-i l = (length l.given ≡ 6) × Pass (λ k. renamed_one l.twin (get_or l.given k no_comparison)) 0 (length l.given) l.i l.given l.comparisons
+invariant-loop-i l = (length l.given ≡ 6) × Pass (λ k. renamed_one l.twin (get_or l.given k no_comparison)) 0 (length l.given) l.i l.given
+    l.comparisons
 
 abbrev pub decreases-loop-i : goal.decreases-loop-i
 decreases-loop-i l = 6 - l.i

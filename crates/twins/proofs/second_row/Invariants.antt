@@ -9,7 +9,8 @@ use Rattle.model.specs.Tables.{value}
 use Rattle.twins.proofs.second_row.Given as goal
 
 abbrev pub invariant-loop-c : goal.invariant-loop-c
-invariant-loop-c l = (length l.row ≡ 32) × (length l.twin ≡ 16) × Pass (λ c'. value l.row (at l.twin c')) 0 l.n l.c (replicate 16 (pos 0)) l.second
+invariant-loop-c l = (length l.row ≡ 32) × (length l.twin ≡ 16) × Pass (λ c'. value l.row (at l.twin c')) 0 l.n l.c (replicate 16 (pos 0))
+    l.second
 
 abbrev pub decreases-loop-c : goal.decreases-loop-c
 decreases-loop-c l = l.n - l.c

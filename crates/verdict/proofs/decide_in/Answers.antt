@@ -28,7 +28,12 @@ pub lay_rows-requires : goal.lay_rows-requires
 lay_rows-requires c =
     let size : Sized (problem c.args.k c.args.extract c.args.query) =
     sizes _ _ _ _ _ _ c.well_formed.0 c.well_formed.1.0 c.well_formed.1.1.0 in
-    one_asks c.args.k c.args.extract c.args.query c.requires.decides.given size c.args.rows c.requires.decides.both c.args.b.now (omega (arith, width_below c.args.k c.args.extract c.args.query c.requires.decides.given size c.args.rows c.requires.decides.both, c.requires.rows_room))
+    one_asks c.args.k c.args.extract c.args.query c.requires.decides.given size c.args.rows c.requires.decides.both c.args.b.now
+    (omega (
+      arith,
+      width_below c.args.k c.args.extract c.args.query c.requires.decides.given size c.args.rows c.requires.decides.both,
+      c.requires.rows_room,
+    ))
 
 pub tables_differ-differ-requires : goal.tables_differ-differ-requires
 tables_differ-differ-requires c =
@@ -40,13 +45,25 @@ pub find_one-one-requires : goal.find_one-one-requires
 find_one-one-requires c =
     let size : Sized (problem c.args.k c.args.extract c.args.query) =
     sizes _ _ _ _ _ _ c.well_formed.0 c.well_formed.1.0 c.well_formed.1.1.0 in
-    record { searches = one_searches c.args.k c.args.extract c.args.query c.requires.decides.given size c.args.rows c.requires.decides.both (one_box c.args.k c.args.extract c.args.query c.requires.decides.given size c.args.rows c.requires.decides.both c.args.b.now (omega (arith, width_below c.args.k c.args.extract c.args.query c.requires.decides.given size c.args.rows c.requires.decides.both, c.requires.rows_room)) c.lay_rows.ensures).1; lent = lent _ _ (width_below c.args.k c.args.extract c.args.query c.requires.decides.given size c.args.rows c.requires.decides.both) c.args.x.now c.requires.pair c.requires.room refl refl refl refl refl refl }
+    record {
+      searches = one_searches c.args.k c.args.extract c.args.query c.requires.decides.given size c.args.rows c.requires.decides.both
+          (one_box c.args.k c.args.extract c.args.query c.requires.decides.given size c.args.rows c.requires.decides.both c.args.b.now
+          (omega (
+            arith,
+            width_below c.args.k c.args.extract c.args.query c.requires.decides.given size c.args.rows c.requires.decides.both,
+            c.requires.rows_room,
+          )) c.lay_rows.ensures).1;
+      lent = lent _ _ (width_below c.args.k c.args.extract c.args.query
+          c.requires.decides.given size c.args.rows c.requires.decides.both) c.args.x.now c.requires.pair c.requires.room refl refl refl refl
+          refl refl;
+    }
 
 pub lay_rows-requires-2 : goal.lay_rows-requires-2
 lay_rows-requires-2 c =
     let size : Sized (problem c.args.k c.args.extract c.args.query) =
     sizes _ _ _ _ _ _ c.well_formed.0 c.well_formed.1.0 c.well_formed.1.1.0 in
-    two_asks c.args.k c.args.extract c.args.query c.requires.decides.given size c.args.rows c.requires.decides.both _ (omega (arith, c.lay_rows.auto.d, c.requires.rows_room))
+    two_asks c.args.k c.args.extract c.args.query c.requires.decides.given size c.args.rows c.requires.decides.both _
+    (omega (arith, c.lay_rows.auto.d, c.requires.rows_room))
 
 pub rename-wants_other-requires : goal.rename-wants_other-requires
 rename-wants_other-requires c =
@@ -58,35 +75,95 @@ pub slice_bounds-outputs-end : goal.slice_bounds-outputs-end
 slice_bounds-outputs-end c =
     let size : Sized (problem c.args.k c.args.extract c.args.query) =
     sizes _ _ _ _ _ _ c.well_formed.0 c.well_formed.1.0 c.well_formed.1.1.0 in
-    omega (arith, size.query.outputs, query_outputs c.args.k c.args.extract c.args.query c.requires.decides.given size c.args.rows c.requires.decides.both)
+    omega (
+      arith,
+      size.query.outputs,
+      query_outputs c.args.k c.args.extract c.args.query c.requires.decides.given size c.args.rows
+          c.requires.decides.both,
+    )
 
 pub slice_bounds-find_two-end : goal.slice_bounds-find_two-end
 slice_bounds-find_two-end c =
     let size : Sized (problem c.args.k c.args.extract c.args.query) =
     sizes _ _ _ _ _ _ c.well_formed.0 c.well_formed.1.0 c.well_formed.1.1.0 in
-    sym (length-take-le _ _ (omega (arith, size.query.outputs, query_outputs c.args.k c.args.extract c.args.query c.requires.decides.given size c.args.rows c.requires.decides.both)))
+    sym (length-take-le _ _ (omega (
+      arith,
+      size.query.outputs,
+      query_outputs c.args.k c.args.extract c.args.query c.requires.decides.given
+          size c.args.rows c.requires.decides.both,
+    )))
 
 pub find_two-kind-requires : goal.find_two-kind-requires
 find_two-kind-requires c =
     let size : Sized (problem c.args.k c.args.extract c.args.query) =
     sizes _ _ _ _ _ _ c.well_formed.0 c.well_formed.1.0 c.well_formed.1.1.0 in
-    record { searches = two_searches c.args.k c.args.extract c.args.query c.requires.decides.given size c.args.rows c.requires.decides.both c.rename-keeps_other.ensures (two_box c.args.k c.args.extract c.args.query c.requires.decides.given size c.args.rows c.requires.decides.both _ (omega (arith, c.lay_rows.auto.d, c.requires.rows_room)) c.lay_rows-2.ensures).1; third = wants_fits c.args.k c.args.extract c.args.query c.requires.decides.given size c.args.rows c.requires.decides.both c.rename-keeps_other.ensures c.rename-wants_other.ensures; partners = partners c.args.k c.args.extract c.args.query c.requires.decides.given size c.args.rows c.requires.decides.both; lent = lent _ _ (omega arith) c.args.x.now c.requires.pair c.requires.room c.find_one-one.auto.ways c.find_one-one.auto.x c.find_one-one.auto.y c.find_one-one.auto.v c.find_one-one.auto.w c.find_one-one.auto.out }
+    record {
+      searches = two_searches c.args.k c.args.extract c.args.query c.requires.decides.given size c.args.rows c.requires.decides.both
+          c.rename-keeps_other.ensures (two_box c.args.k c.args.extract c.args.query c.requires.decides.given size c.args.rows
+          c.requires.decides.both _ (omega (arith, c.lay_rows.auto.d, c.requires.rows_room)) c.lay_rows-2.ensures).1;
+      third = wants_fits
+          c.args.k c.args.extract c.args.query c.requires.decides.given size c.args.rows c.requires.decides.both c.rename-keeps_other.ensures
+          c.rename-wants_other.ensures;
+      partners = partners c.args.k c.args.extract c.args.query c.requires.decides.given size c.args.rows
+          c.requires.decides.both;
+      lent = lent _ _ (omega arith) c.args.x.now c.requires.pair c.requires.room c.find_one-one.auto.ways
+          c.find_one-one.auto.x c.find_one-one.auto.y c.find_one-one.auto.v c.find_one-one.auto.w c.find_one-one.auto.out;
+    }
 
 pub pair_of-pair-requires : goal.pair_of-pair-requires
 pair_of-pair-requires c =
     let size : Sized (problem c.args.k c.args.extract c.args.query) =
     sizes _ _ _ _ _ _ c.well_formed.0 c.well_formed.1.0 c.well_formed.1.1.0 in
-    let told : Told c.args.k c.args.extract c.args.query c.requires.decides.given size c.args.rows c.requires.decides.both c.if-one-eq0.kind c.if-one-eq0.out =
-    elim c.if-one-eq0.branch [ then-one-eq0 s ↦ rw (s.out-is, s.kind-is) (told_second c.args.k c.args.extract c.args.query c.requires.decides.given size c.args.rows c.requires.decides.both _ (one_box c.args.k c.args.extract c.args.query c.requires.decides.given size c.args.rows c.requires.decides.both c.args.b.now (omega (arith, width_below c.args.k c.args.extract c.args.query c.requires.decides.given size c.args.rows c.requires.decides.both, c.requires.rows_room)) c.lay_rows.ensures).0 (tables_told c.args.k c.args.extract c.args.query c.requires.decides.given size c.args.rows c.requires.decides.both c.tables_differ-differ.ensures) c.find_one-one.ensures.kind s.if-one-eq0.true c.rename-keeps_other.ensures s.rename-wants_other.ensures _ (two_box c.args.k c.args.extract c.args.query c.requires.decides.given size c.args.rows c.requires.decides.both _ (omega (arith, c.lay_rows.auto.d, c.requires.rows_room)) c.lay_rows-2.ensures).0 _ s.find_two-kind.ensures.kind s.find_two-kind.ensures.zone) | else-one-eq0 s ↦ rw (s.out-is, s.kind-is) (told_first c.args.k c.args.extract c.args.query c.requires.decides.given size c.args.rows c.requires.decides.both _ (one_box c.args.k c.args.extract c.args.query c.requires.decides.given size c.args.rows c.requires.decides.both c.args.b.now (omega (arith, width_below c.args.k c.args.extract c.args.query c.requires.decides.given size c.args.rows c.requires.decides.both, c.requires.rows_room)) c.lay_rows.ensures).0 (tables_told c.args.k c.args.extract c.args.query c.requires.decides.given size c.args.rows c.requires.decides.both c.tables_differ-differ.ensures) _ c.find_one-one.ensures.kind s.if-one-eq0.false c.find_one-one.ensures.zone) ] in
+    let told : Told c.args.k c.args.extract c.args.query c.requires.decides.given size c.args.rows c.requires.decides.both c.if-one-eq0.kind
+    c.if-one-eq0.out =
+    elim c.if-one-eq0.branch [
+      | then-one-eq0 s ↦ rw (s.out-is, s.kind-is)
+          (told_second c.args.k c.args.extract c.args.query c.requires.decides.given size c.args.rows c.requires.decides.both _
+          (one_box c.args.k c.args.extract c.args.query c.requires.decides.given size c.args.rows c.requires.decides.both c.args.b.now
+          (omega (
+            arith,
+            width_below c.args.k c.args.extract c.args.query c.requires.decides.given size c.args.rows c.requires.decides.both,
+            c.requires.rows_room,
+          )) c.lay_rows.ensures).0 (tables_told c.args.k c.args.extract c.args.query c.requires.decides.given size
+          c.args.rows c.requires.decides.both c.tables_differ-differ.ensures) c.find_one-one.ensures.kind s.if-one-eq0.true
+          c.rename-keeps_other.ensures s.rename-wants_other.ensures _ (two_box c.args.k c.args.extract c.args.query c.requires.decides.given
+          size c.args.rows c.requires.decides.both _ (omega (arith, c.lay_rows.auto.d, c.requires.rows_room)) c.lay_rows-2.ensures).0 _
+          s.find_two-kind.ensures.kind s.find_two-kind.ensures.zone)
+      | else-one-eq0 s ↦ rw (s.out-is, s.kind-is) (told_first c.args.k
+          c.args.extract c.args.query c.requires.decides.given size c.args.rows c.requires.decides.both _
+          (one_box c.args.k c.args.extract c.args.query c.requires.decides.given size c.args.rows c.requires.decides.both c.args.b.now
+          (omega (
+            arith,
+            width_below c.args.k c.args.extract c.args.query c.requires.decides.given size c.args.rows c.requires.decides.both,
+            c.requires.rows_room,
+          )) c.lay_rows.ensures).0 (tables_told c.args.k c.args.extract c.args.query c.requires.decides.given size
+          c.args.rows c.requires.decides.both c.tables_differ-differ.ensures) _ c.find_one-one.ensures.kind s.if-one-eq0.false
+          c.find_one-one.ensures.zone)
+    ] in
     let roomy : (c.args.rows.columns + 1) * 33 ≤ length c.if-one-eq0.out =
-    elim c.if-one-eq0.branch [ then-one-eq0 s ↦ omega (arith, ap length s.out-is, s.find_two-kind.auto.out, c.find_one-one.auto.out, c.requires.room.found) | else-one-eq0 s ↦ omega (arith, ap length s.out-is, c.find_one-one.auto.out, c.requires.room.found) ] in
+    elim c.if-one-eq0.branch [
+      | then-one-eq0 s ↦ omega (
+        arith,
+        ap length s.out-is,
+        s.find_two-kind.auto.out,
+        c.find_one-one.auto.out,
+        c.requires.room.found,
+      )
+      | else-one-eq0 s ↦ omega (arith, ap length s.out-is, c.find_one-one.auto.out, c.requires.room.found)
+    ] in
     pairs_asked c.args.k c.args.extract c.args.query c.requires.decides.given size c.requires.decides.both _ roomy _ told.0 told.1
 
 pub mark_pairs-requires : goal.mark_pairs-requires
 mark_pairs-requires c =
     let size : Sized (problem c.args.k c.args.extract c.args.query) =
     sizes _ _ _ _ _ _ c.well_formed.0 c.well_formed.1.0 c.well_formed.1.1.0 in
-    marks_two c.args.k c.args.extract c.args.query c.requires.decides.given size c.args.rows c.requires.decides.both c.rename-keeps_other.ensures (two_box c.args.k c.args.extract c.args.query c.requires.decides.given size c.args.rows c.requires.decides.both _ (omega (arith, c.lay_rows.auto.d, c.requires.rows_room)) c.lay_rows-2.ensures).1 (elim c.if-one-eq0.branch [ then-one-eq0 s ↦ omega (arith, ap length s.x-is, s.find_two-kind.auto.x, c.find_one-one.auto.x, c.requires.pair) | else-one-eq0 s ↦ omega (arith, ap length s.x-is, c.find_one-one.auto.x, c.requires.pair) ]) refl
+    marks_two c.args.k c.args.extract c.args.query c.requires.decides.given size c.args.rows c.requires.decides.both
+    c.rename-keeps_other.ensures (two_box c.args.k c.args.extract c.args.query c.requires.decides.given size c.args.rows
+    c.requires.decides.both _ (omega (arith, c.lay_rows.auto.d, c.requires.rows_room)) c.lay_rows-2.ensures).1 (elim c.if-one-eq0.branch [
+      | then-one-eq0 s ↦ omega (arith, ap length s.x-is, s.find_two-kind.auto.x, c.find_one-one.auto.x, c.requires.pair)
+      | else-one-eq0 s
+          ↦ omega (arith, ap length s.x-is, c.find_one-one.auto.x, c.requires.pair)
+    ]) refl
 
 pub listing_of-listing-requires : goal.listing_of-listing-requires
 listing_of-listing-requires c =
@@ -98,30 +175,89 @@ pub shape_of-b : goal.shape_of-b
 shape_of-b c = c.lay_rows-2.auto.d ∙ c.lay_rows.auto.d
 
 pub shape_of-x : goal.shape_of-x
-shape_of-x c = c.mark_pairs.auto.y ∙ elim c.if-one-eq0.branch [ then-one-eq0 s ↦ ap length s.x-is ∙ s.find_two-kind.auto.x ∙ c.find_one-one.auto.x | else-one-eq0 s ↦ ap length s.x-is ∙ c.find_one-one.auto.x ]
+shape_of-x c = c.mark_pairs.auto.y ∙ elim c.if-one-eq0.branch [
+  | then-one-eq0 s ↦ ap length s.x-is ∙ s.find_two-kind.auto.x ∙
+      c.find_one-one.auto.x
+  | else-one-eq0 s ↦ ap length s.x-is ∙ c.find_one-one.auto.x
+]
 
 pub shape_of-y : goal.shape_of-y
-shape_of-y c = elim c.if-one-eq0.branch [ then-one-eq0 s ↦ ap length s.y-is ∙ s.find_two-kind.auto.y ∙ c.find_one-one.auto.y | else-one-eq0 s ↦ ap length s.y-is ∙ c.find_one-one.auto.y ]
+shape_of-y c = elim c.if-one-eq0.branch [
+  | then-one-eq0 s ↦ ap length s.y-is ∙ s.find_two-kind.auto.y ∙ c.find_one-one.auto.y
+  | else-one-eq0
+      s ↦ ap length s.y-is ∙ c.find_one-one.auto.y
+]
 
 pub shape_of-v : goal.shape_of-v
-shape_of-v c = elim c.if-one-eq0.branch [ then-one-eq0 s ↦ ap length s.v-is ∙ s.find_two-kind.auto.v ∙ c.find_one-one.auto.v | else-one-eq0 s ↦ ap length s.v-is ∙ c.find_one-one.auto.v ]
+shape_of-v c = elim c.if-one-eq0.branch [
+  | then-one-eq0 s ↦ ap length s.v-is ∙ s.find_two-kind.auto.v ∙ c.find_one-one.auto.v
+  | else-one-eq0
+      s ↦ ap length s.v-is ∙ c.find_one-one.auto.v
+]
 
 pub shape_of-w : goal.shape_of-w
-shape_of-w c = elim c.if-one-eq0.branch [ then-one-eq0 s ↦ ap length s.w-is ∙ s.find_two-kind.auto.w ∙ c.find_one-one.auto.w | else-one-eq0 s ↦ ap length s.w-is ∙ c.find_one-one.auto.w ]
+shape_of-w c = elim c.if-one-eq0.branch [
+  | then-one-eq0 s ↦ ap length s.w-is ∙ s.find_two-kind.auto.w ∙ c.find_one-one.auto.w
+  | else-one-eq0
+      s ↦ ap length s.w-is ∙ c.find_one-one.auto.w
+]
 
 pub shape_of-out : goal.shape_of-out
-shape_of-out c = elim c.if-one-eq0.branch [ then-one-eq0 s ↦ ap length s.out-is ∙ s.find_two-kind.auto.out ∙ c.find_one-one.auto.out | else-one-eq0 s ↦ ap length s.out-is ∙ c.find_one-one.auto.out ]
+shape_of-out c = elim c.if-one-eq0.branch [
+  | then-one-eq0 s ↦ ap length s.out-is ∙ s.find_two-kind.auto.out ∙ c.find_one-one.auto.out
+  | else-one-eq0 s ↦ ap length s.out-is ∙ c.find_one-one.auto.out
+]
 
 pub returns : goal.returns
 returns c =
     let size : Sized (problem c.args.k c.args.extract c.args.query) =
     sizes _ _ _ _ _ _ c.well_formed.0 c.well_formed.1.0 c.well_formed.1.1.0 in
-    let told : Told c.args.k c.args.extract c.args.query c.requires.decides.given size c.args.rows c.requires.decides.both c.if-one-eq0.kind c.if-one-eq0.out =
-    elim c.if-one-eq0.branch [ then-one-eq0 s ↦ rw (s.out-is, s.kind-is) (told_second c.args.k c.args.extract c.args.query c.requires.decides.given size c.args.rows c.requires.decides.both _ (one_box c.args.k c.args.extract c.args.query c.requires.decides.given size c.args.rows c.requires.decides.both c.args.b.now (omega (arith, width_below c.args.k c.args.extract c.args.query c.requires.decides.given size c.args.rows c.requires.decides.both, c.requires.rows_room)) c.lay_rows.ensures).0 (tables_told c.args.k c.args.extract c.args.query c.requires.decides.given size c.args.rows c.requires.decides.both c.tables_differ-differ.ensures) c.find_one-one.ensures.kind s.if-one-eq0.true c.rename-keeps_other.ensures s.rename-wants_other.ensures _ (two_box c.args.k c.args.extract c.args.query c.requires.decides.given size c.args.rows c.requires.decides.both _ (omega (arith, c.lay_rows.auto.d, c.requires.rows_room)) c.lay_rows-2.ensures).0 _ s.find_two-kind.ensures.kind s.find_two-kind.ensures.zone) | else-one-eq0 s ↦ rw (s.out-is, s.kind-is) (told_first c.args.k c.args.extract c.args.query c.requires.decides.given size c.args.rows c.requires.decides.both _ (one_box c.args.k c.args.extract c.args.query c.requires.decides.given size c.args.rows c.requires.decides.both c.args.b.now (omega (arith, width_below c.args.k c.args.extract c.args.query c.requires.decides.given size c.args.rows c.requires.decides.both, c.requires.rows_room)) c.lay_rows.ensures).0 (tables_told c.args.k c.args.extract c.args.query c.requires.decides.given size c.args.rows c.requires.decides.both c.tables_differ-differ.ensures) _ c.find_one-one.ensures.kind s.if-one-eq0.false c.find_one-one.ensures.zone) ] in
+    let told : Told c.args.k c.args.extract c.args.query c.requires.decides.given size c.args.rows c.requires.decides.both c.if-one-eq0.kind
+    c.if-one-eq0.out =
+    elim c.if-one-eq0.branch [
+      | then-one-eq0 s ↦ rw (s.out-is, s.kind-is)
+          (told_second c.args.k c.args.extract c.args.query c.requires.decides.given size c.args.rows c.requires.decides.both _
+          (one_box c.args.k c.args.extract c.args.query c.requires.decides.given size c.args.rows c.requires.decides.both c.args.b.now
+          (omega (
+            arith,
+            width_below c.args.k c.args.extract c.args.query c.requires.decides.given size c.args.rows c.requires.decides.both,
+            c.requires.rows_room,
+          )) c.lay_rows.ensures).0 (tables_told c.args.k c.args.extract c.args.query c.requires.decides.given size
+          c.args.rows c.requires.decides.both c.tables_differ-differ.ensures) c.find_one-one.ensures.kind s.if-one-eq0.true
+          c.rename-keeps_other.ensures s.rename-wants_other.ensures _ (two_box c.args.k c.args.extract c.args.query c.requires.decides.given
+          size c.args.rows c.requires.decides.both _ (omega (arith, c.lay_rows.auto.d, c.requires.rows_room)) c.lay_rows-2.ensures).0 _
+          s.find_two-kind.ensures.kind s.find_two-kind.ensures.zone)
+      | else-one-eq0 s ↦ rw (s.out-is, s.kind-is) (told_first c.args.k
+          c.args.extract c.args.query c.requires.decides.given size c.args.rows c.requires.decides.both _
+          (one_box c.args.k c.args.extract c.args.query c.requires.decides.given size c.args.rows c.requires.decides.both c.args.b.now
+          (omega (
+            arith,
+            width_below c.args.k c.args.extract c.args.query c.requires.decides.given size c.args.rows c.requires.decides.both,
+            c.requires.rows_room,
+          )) c.lay_rows.ensures).0 (tables_told c.args.k c.args.extract c.args.query c.requires.decides.given size
+          c.args.rows c.requires.decides.both c.tables_differ-differ.ensures) _ c.find_one-one.ensures.kind s.if-one-eq0.false
+          c.find_one-one.ensures.zone)
+    ] in
     let roomy : (c.args.rows.columns + 1) * 33 ≤ length c.if-one-eq0.out =
-    elim c.if-one-eq0.branch [ then-one-eq0 s ↦ omega (arith, ap length s.out-is, s.find_two-kind.auto.out, c.find_one-one.auto.out, c.requires.room.found) | else-one-eq0 s ↦ omega (arith, ap length s.out-is, c.find_one-one.auto.out, c.requires.room.found) ] in
+    elim c.if-one-eq0.branch [
+      | then-one-eq0 s ↦ omega (
+        arith,
+        ap length s.out-is,
+        s.find_two-kind.auto.out,
+        c.find_one-one.auto.out,
+        c.requires.room.found,
+      )
+      | else-one-eq0 s ↦ omega (arith, ap length s.out-is, c.find_one-one.auto.out, c.requires.room.found)
+    ] in
     record {
       kind = told.0 ∙ sym (kind_found _ c.requires.decides.given.formed);
-      listing = c.listing_of-listing.ensures ∙ listing_told c.args.k c.args.extract c.args.query c.requires.decides.given (width_most c.args.k c.args.extract c.args.query c.requires.decides.given size c.args.rows c.requires.decides.both) (width_of c.args.k c.args.extract c.args.query c.requires.decides.given size c.args.rows c.requires.decides.both) (c.mark_pairs.ensures ∙ marked_cong _ (unfixed_in (job_of c.args.k c.args.extract c.args.query)) _ c.args.k.width (finds_unfixed c.args.k c.args.extract c.args.query c.requires.decides.given size c.args.rows c.requires.decides.both c.rename-keeps_other.ensures _ (two_box c.args.k c.args.extract c.args.query c.requires.decides.given size c.args.rows c.requires.decides.both _ (omega (arith, c.lay_rows.auto.d, c.requires.rows_room)) c.lay_rows-2.ensures).0));
-      databases = pair_handed_out c.args.k c.args.extract c.args.query c.requires.decides.given size c.requires.decides.both _ roomy _ told.0 told.1 c.pair_of-pair.ensures;
+      listing = c.listing_of-listing.ensures ∙ listing_told c.args.k c.args.extract c.args.query c.requires.decides.given
+          (width_most c.args.k c.args.extract c.args.query c.requires.decides.given size c.args.rows c.requires.decides.both)
+          (width_of c.args.k c.args.extract c.args.query c.requires.decides.given size c.args.rows c.requires.decides.both)
+          (c.mark_pairs.ensures ∙ marked_cong _ (unfixed_in (job_of c.args.k c.args.extract c.args.query)) _ c.args.k.width
+          (finds_unfixed c.args.k c.args.extract c.args.query c.requires.decides.given size c.args.rows c.requires.decides.both
+          c.rename-keeps_other.ensures _ (two_box c.args.k c.args.extract c.args.query c.requires.decides.given size c.args.rows
+          c.requires.decides.both _ (omega (arith, c.lay_rows.auto.d, c.requires.rows_room)) c.lay_rows-2.ensures).0));
+      databases = pair_handed_out c.args.k c.args.extract c.args.query c.requires.decides.given size c.requires.decides.both _ roomy _
+          told.0 told.1 c.pair_of-pair.ensures;
     }

@@ -9,13 +9,15 @@ pub overflow_sub-result : goal.overflow_sub-result
 overflow_sub-result c = let f = c.ranges.v in rw (flipped f c.if-v-lt0.true) (record { sfits = f.sfits })
 
 pub overflow_cast-result : goal.overflow_cast-result
-overflow_cast-result c = let f = c.ranges.v in rw (flipped f c.if-v-lt0.true, to_z_pos w32 f.sfits) (tt, record { fits = omega (arith, f.sfits) })
+overflow_cast-result c = let f = c.ranges.v in rw (flipped f c.if-v-lt0.true, to_z_pos w32 f.sfits)
+    (tt, record { fits = omega (arith, f.sfits) })
 
 pub overflow_sub-result-then-v-lt0 : goal.overflow_sub-result-then-v-lt0
 overflow_sub-result-then-v-lt0 c = let f = c.ranges.v in rw (flipped f c.if-v-lt0.true, to_z_pos w32 f.sfits) (omega (arith, f.sfits))
 
 pub overflow_cast-result-else-v-lt0 : goal.overflow_cast-result-else-v-lt0
-overflow_cast-result-else-v-lt0 c = let f = c.ranges.v in rw (to_z-of_z f, natural f c.if-v-lt0.false) (tt, record { fits = omega (arith, f.sfits) })
+overflow_cast-result-else-v-lt0 c = let f = c.ranges.v in rw (to_z-of_z f, natural f c.if-v-lt0.false)
+    (tt, record { fits = omega (arith, f.sfits) })
 
 pub returns-then-v-lt0 : goal.returns-then-v-lt0
 returns-then-v-lt0 c = let f = c.ranges.v in rw (flipped f c.if-v-lt0.true, to_z_pos w32 f.sfits, negative f c.if-v-lt0.true)

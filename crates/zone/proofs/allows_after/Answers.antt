@@ -16,7 +16,13 @@ pub overflow_add-result-3 : goal.overflow_add-result-3
 overflow_add-result-3 c = omega (arith, there_fits c.requires, back_fits c.requires, c.requires.first.asked.most_fits)
 
 pub overflow_add-result-4 : goal.overflow_add-result-4
-overflow_add-result-4 c = omega (arith, there_fits c.requires, back_fits c.requires, c.requires.first.asked.most_fits, c.requires.second.most_fits)
+overflow_add-result-4 c = omega (
+  arith,
+  there_fits c.requires,
+  back_fits c.requires,
+  c.requires.first.asked.most_fits,
+  c.requires.second.most_fits,
+)
 
 pub returns : goal.returns
 returns c = after_round c.requires c.if-d-straight-lt-TWICE.false

@@ -11,7 +11,10 @@ pub overflow_sub-v : goal.overflow_sub-v
 overflow_sub-v c = omega (arith, c.requires.enough c.loop-y.y (omega arith))
 
 pub loop-y-preserved : goal.loop-y-preserved
-loop-y-preserved c = elim c.if-i-y.branch [ then-i-y w ↦ own_turn c.requires c.loop-y.invariant (omega arith) w.if-i-y.true w.v-is | else-i-y w ↦ other_turn c.requires c.loop-y.invariant (omega arith) w.if-i-y.false w.v-is ]
+loop-y-preserved c = elim c.if-i-y.branch [
+  | then-i-y w ↦ own_turn c.requires c.loop-y.invariant (omega arith) w.if-i-y.true w.v-is
+  | else-i-y w ↦ other_turn c.requires c.loop-y.invariant (omega arith) w.if-i-y.false w.v-is
+]
 
 pub shape_of-d : goal.shape_of-d
 shape_of-d c = c.loop-y.invariant.size

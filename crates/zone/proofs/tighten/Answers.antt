@@ -23,7 +23,11 @@ pub loop-i-preserved : goal.loop-i-preserved
 loop-i-preserved c =
     let u = c.requires in
     let t = c.loop-i in
-    elim c.if-p-d.branch [ then-p-d w ↦ row_turn u t.invariant (omega arith) (w.d-is ∙ w.tighten_row.ensures) | else-p-d w ↦ row_left u t.invariant (omega arith) w.if-p-d.false w.d-is ]
+    elim c.if-p-d.branch [
+      | then-p-d w ↦ row_turn u t.invariant (omega arith) (w.d-is ∙ w.tighten_row.ensures)
+      | else-p-d w ↦ row_left u
+          t.invariant (omega arith) w.if-p-d.false w.d-is
+    ]
 
 pub shape_of-d : goal.shape_of-d
 shape_of-d c = c.loop-i.invariant.size
