@@ -63,7 +63,7 @@ module _ (ts : List Table) (e : Expression) (formed : T (expression_formed ts e)
   pub other_columns : (r s : Row) → ((c : ℕ) → T (in_scope ts e c) → value r c ≡ value s c) → (meets e r ≡ meets e s) × (outputs_of e r ≡ outputs_of e s)
   other_columns r s alike = let f = is_formed ts e formed in (same_meets ts e r s alike f, same_outputs ts e r s alike f)
 
-  -- its rows are the outputs of every row within bounds that meets the condition and whose part in each used_by_either table is a row of that table
+  -- its rows are the outputs of every row within bounds that meets the condition and whose part in each used table is a row of that table
   pub expression_rows : (d : Database) → T (all_of table_formed ts) → WithinBounds ts d → (o : OutputRow)
       → (o ∈ rows_of ts e d)
       ↔ ((r : Row) × T (within (columns_of ts) r) × ((t : ℕ) → t < length ts → T (uses e t) → part_of ts r t ∈ d t) × T (meets e r) × (outputs_of e r ≡ o))
@@ -143,7 +143,7 @@ module _ (j : Job) (formed : T (structured j)) where
       → SameSet (run_of j ss) (query_rows j d) × Distinct (run_of j ss)
   run_lists k d w ss s = (running.run_same j job k d w ss s, running.run_distinct j ss)
 
--- ---- 4. Filling lists the extract's rows on a database, each once, from any ranges that hold the rows of the used_by_either tables
+-- ---- 4. Filling lists the extract's rows on a database, each once, from any ranges that hold the rows of the used tables
 
 module _ (j : Job) where
   pub fill_lists : (d : Database) (ranges : ℕ → List TableRow)
