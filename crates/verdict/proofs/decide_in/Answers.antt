@@ -16,7 +16,49 @@ use Rattle.twins.proofs.Marking.{marked_cong}
 use Rattle.verdict.specs.Found.{unfixed_in}
 use Rattle.verdict.proofs.Decided.{kind_found}
 use Rattle.verdict.proofs.decide_in.Goals as goal
-use Rattle.verdict.proofs.decide_in.Goals.{else-one-eq0, then-one-eq0}
+use Rattle.verdict.proofs.decide_in.Goals.{Joined-one-eq0, else-one-eq0, then-one-eq0}
+
+-- the kind that was found, and the array that the zone was left in
+told : (c : Joined-one-eq0) (size : Sized (problem c.args.k c.args.extract c.args.query))
+    → Told c.args.k c.args.extract c.args.query c.requires.decides.given size c.args.rows c.requires.decides.both c.if-one-eq0.kind c.if-one-eq0.out
+told c size =
+    elim c.if-one-eq0.branch [
+      | then-one-eq0 s ↦ rw (s.out-is, s.kind-is)
+          (told_second c.args.k c.args.extract c.args.query c.requires.decides.given size c.args.rows c.requires.decides.both _
+          (one_box c.args.k c.args.extract c.args.query c.requires.decides.given size c.args.rows c.requires.decides.both c.args.b.now
+          (omega (
+            arith,
+            width_below c.args.k c.args.extract c.args.query c.requires.decides.given size c.args.rows c.requires.decides.both,
+            c.requires.rows_room,
+          )) c.lay_rows.ensures).0 (tables_told c.args.k c.args.extract c.args.query c.requires.decides.given size
+          c.args.rows c.requires.decides.both c.tables_differ-differ.ensures) c.find_one-one.ensures.kind s.if-one-eq0.true
+          c.rename-keeps_other.ensures s.rename-wants_other.ensures _ (two_box c.args.k c.args.extract c.args.query c.requires.decides.given
+          size c.args.rows c.requires.decides.both _ (omega (arith, c.lay_rows.auto.d, c.requires.rows_room)) c.lay_rows-2.ensures).0 _
+          s.find_two-kind.ensures.kind s.find_two-kind.ensures.zone)
+      | else-one-eq0 s ↦ rw (s.out-is, s.kind-is) (told_first c.args.k
+          c.args.extract c.args.query c.requires.decides.given size c.args.rows c.requires.decides.both _
+          (one_box c.args.k c.args.extract c.args.query c.requires.decides.given size c.args.rows c.requires.decides.both c.args.b.now
+          (omega (
+            arith,
+            width_below c.args.k c.args.extract c.args.query c.requires.decides.given size c.args.rows c.requires.decides.both,
+            c.requires.rows_room,
+          )) c.lay_rows.ensures).0 (tables_told c.args.k c.args.extract c.args.query c.requires.decides.given size
+          c.args.rows c.requires.decides.both c.tables_differ-differ.ensures) _ c.find_one-one.ensures.kind s.if-one-eq0.false
+          c.find_one-one.ensures.zone)
+    ]
+
+roomy : (c : Joined-one-eq0) → (c.args.rows.columns + 1) * 33 ≤ length c.if-one-eq0.out
+roomy c =
+    elim c.if-one-eq0.branch [
+      | then-one-eq0 s ↦ omega (
+        arith,
+        ap length s.out-is,
+        s.find_two-kind.auto.out,
+        c.find_one-one.auto.out,
+        c.requires.room.found,
+      )
+      | else-one-eq0 s ↦ omega (arith, ap length s.out-is, c.find_one-one.auto.out, c.requires.room.found)
+    ]
 
 pub rename-keeps_other-requires : goal.rename-keeps_other-requires
 rename-keeps_other-requires c =
@@ -114,44 +156,9 @@ pub pair_of-pair-requires : goal.pair_of-pair-requires
 pair_of-pair-requires c =
     let size : Sized (problem c.args.k c.args.extract c.args.query) =
     sizes _ _ _ _ _ _ c.well_formed.0 c.well_formed.1.0 c.well_formed.1.1.0 in
-    let told : Told c.args.k c.args.extract c.args.query c.requires.decides.given size c.args.rows c.requires.decides.both c.if-one-eq0.kind
-    c.if-one-eq0.out =
-    elim c.if-one-eq0.branch [
-      | then-one-eq0 s ↦ rw (s.out-is, s.kind-is)
-          (told_second c.args.k c.args.extract c.args.query c.requires.decides.given size c.args.rows c.requires.decides.both _
-          (one_box c.args.k c.args.extract c.args.query c.requires.decides.given size c.args.rows c.requires.decides.both c.args.b.now
-          (omega (
-            arith,
-            width_below c.args.k c.args.extract c.args.query c.requires.decides.given size c.args.rows c.requires.decides.both,
-            c.requires.rows_room,
-          )) c.lay_rows.ensures).0 (tables_told c.args.k c.args.extract c.args.query c.requires.decides.given size
-          c.args.rows c.requires.decides.both c.tables_differ-differ.ensures) c.find_one-one.ensures.kind s.if-one-eq0.true
-          c.rename-keeps_other.ensures s.rename-wants_other.ensures _ (two_box c.args.k c.args.extract c.args.query c.requires.decides.given
-          size c.args.rows c.requires.decides.both _ (omega (arith, c.lay_rows.auto.d, c.requires.rows_room)) c.lay_rows-2.ensures).0 _
-          s.find_two-kind.ensures.kind s.find_two-kind.ensures.zone)
-      | else-one-eq0 s ↦ rw (s.out-is, s.kind-is) (told_first c.args.k
-          c.args.extract c.args.query c.requires.decides.given size c.args.rows c.requires.decides.both _
-          (one_box c.args.k c.args.extract c.args.query c.requires.decides.given size c.args.rows c.requires.decides.both c.args.b.now
-          (omega (
-            arith,
-            width_below c.args.k c.args.extract c.args.query c.requires.decides.given size c.args.rows c.requires.decides.both,
-            c.requires.rows_room,
-          )) c.lay_rows.ensures).0 (tables_told c.args.k c.args.extract c.args.query c.requires.decides.given size
-          c.args.rows c.requires.decides.both c.tables_differ-differ.ensures) _ c.find_one-one.ensures.kind s.if-one-eq0.false
-          c.find_one-one.ensures.zone)
-    ] in
-    let roomy : (c.args.rows.columns + 1) * 33 ≤ length c.if-one-eq0.out =
-    elim c.if-one-eq0.branch [
-      | then-one-eq0 s ↦ omega (
-        arith,
-        ap length s.out-is,
-        s.find_two-kind.auto.out,
-        c.find_one-one.auto.out,
-        c.requires.room.found,
-      )
-      | else-one-eq0 s ↦ omega (arith, ap length s.out-is, c.find_one-one.auto.out, c.requires.room.found)
-    ] in
-    pairs_asked c.args.k c.args.extract c.args.query c.requires.decides.given size c.requires.decides.both _ roomy _ told.0 told.1
+    let joined = (goal.at.pair_of-pair-requires c).Joined-one-eq0 in
+    let told = told joined size in
+    pairs_asked c.args.k c.args.extract c.args.query c.requires.decides.given size c.requires.decides.both _ (roomy joined) _ told.0 told.1
 
 pub mark_pairs-requires : goal.mark_pairs-requires
 mark_pairs-requires c =
@@ -212,43 +219,8 @@ pub returns : goal.returns
 returns c =
     let size : Sized (problem c.args.k c.args.extract c.args.query) =
     sizes _ _ _ _ _ _ c.well_formed.0 c.well_formed.1.0 c.well_formed.1.1.0 in
-    let told : Told c.args.k c.args.extract c.args.query c.requires.decides.given size c.args.rows c.requires.decides.both c.if-one-eq0.kind
-    c.if-one-eq0.out =
-    elim c.if-one-eq0.branch [
-      | then-one-eq0 s ↦ rw (s.out-is, s.kind-is)
-          (told_second c.args.k c.args.extract c.args.query c.requires.decides.given size c.args.rows c.requires.decides.both _
-          (one_box c.args.k c.args.extract c.args.query c.requires.decides.given size c.args.rows c.requires.decides.both c.args.b.now
-          (omega (
-            arith,
-            width_below c.args.k c.args.extract c.args.query c.requires.decides.given size c.args.rows c.requires.decides.both,
-            c.requires.rows_room,
-          )) c.lay_rows.ensures).0 (tables_told c.args.k c.args.extract c.args.query c.requires.decides.given size
-          c.args.rows c.requires.decides.both c.tables_differ-differ.ensures) c.find_one-one.ensures.kind s.if-one-eq0.true
-          c.rename-keeps_other.ensures s.rename-wants_other.ensures _ (two_box c.args.k c.args.extract c.args.query c.requires.decides.given
-          size c.args.rows c.requires.decides.both _ (omega (arith, c.lay_rows.auto.d, c.requires.rows_room)) c.lay_rows-2.ensures).0 _
-          s.find_two-kind.ensures.kind s.find_two-kind.ensures.zone)
-      | else-one-eq0 s ↦ rw (s.out-is, s.kind-is) (told_first c.args.k
-          c.args.extract c.args.query c.requires.decides.given size c.args.rows c.requires.decides.both _
-          (one_box c.args.k c.args.extract c.args.query c.requires.decides.given size c.args.rows c.requires.decides.both c.args.b.now
-          (omega (
-            arith,
-            width_below c.args.k c.args.extract c.args.query c.requires.decides.given size c.args.rows c.requires.decides.both,
-            c.requires.rows_room,
-          )) c.lay_rows.ensures).0 (tables_told c.args.k c.args.extract c.args.query c.requires.decides.given size
-          c.args.rows c.requires.decides.both c.tables_differ-differ.ensures) _ c.find_one-one.ensures.kind s.if-one-eq0.false
-          c.find_one-one.ensures.zone)
-    ] in
-    let roomy : (c.args.rows.columns + 1) * 33 ≤ length c.if-one-eq0.out =
-    elim c.if-one-eq0.branch [
-      | then-one-eq0 s ↦ omega (
-        arith,
-        ap length s.out-is,
-        s.find_two-kind.auto.out,
-        c.find_one-one.auto.out,
-        c.requires.room.found,
-      )
-      | else-one-eq0 s ↦ omega (arith, ap length s.out-is, c.find_one-one.auto.out, c.requires.room.found)
-    ] in
+    let joined = (goal.at.returns c).Joined-one-eq0 in
+    let told = told joined size in
     record {
       kind = told.0 ∙ sym (kind_found _ c.requires.decides.given.formed);
       listing = c.listing_of-listing.ensures ∙ listing_told c.args.k c.args.extract c.args.query c.requires.decides.given
@@ -258,6 +230,6 @@ returns c =
           (finds_unfixed c.args.k c.args.extract c.args.query c.requires.decides.given size c.args.rows c.requires.decides.both
           c.rename-keeps_other.ensures _ (two_box c.args.k c.args.extract c.args.query c.requires.decides.given size c.args.rows
           c.requires.decides.both _ (omega (arith, c.lay_rows.auto.d, c.requires.rows_room)) c.lay_rows-2.ensures).0));
-      databases = pair_handed_out c.args.k c.args.extract c.args.query c.requires.decides.given size c.requires.decides.both _ roomy _
+      databases = pair_handed_out c.args.k c.args.extract c.args.query c.requires.decides.given size c.requires.decides.both _ (roomy joined) _
           told.0 told.1 c.pair_of-pair.ensures;
     }
