@@ -22,9 +22,14 @@ pub fn again(clock: &impl Clock, reason: ErrorKind, left: usize) -> usize
     match reason {
         ErrorKind::Interrupted => left - 1,
         ErrorKind::WouldBlock => {
-            thread::sleep(clock, Duration::from_nanos(PAUSE as u64));
+            pause(clock);
             left - PAUSE
         }
         _ => 0,
     }
+}
+
+// A signal doesn't shorten it.
+fn pause(clock: &impl Clock) {
+    thread::sleep(clock, Duration::from_nanos(PAUSE as u64));
 }
