@@ -1,5 +1,5 @@
 // How long a call is tried again that can't be done just now.
-ghost use Rattle.std.specs.Prelude.{◌≤◌, ◌-◌};
+ghost use Rattle.std.specs.Prelude.{◌≡◌, ◌≢◌, ◌≤◌, ◌<◌, ◌-◌};
 
 use std::io::ErrorKind;
 use std::thread;
@@ -14,7 +14,10 @@ const PAUSE: usize = 10_000_000;
 // that would have blocked is tried again after a pause. One that a signal interrupted is tried again at once, which counts
 // for a nanosecond, so that a loop of tries ends.
 pub fn again(clock: &impl Clock, reason: ErrorKind, left: usize) -> usize
-    ensures { result ≤ left - 1 }
+    ensures less { result ≤ left - 1 }
+    ensures interrupted { PAUSE < left → reason ≡ ErrorKind.Interrupted → result ≡ left - 1 }
+    ensures blocked { PAUSE < left → reason ≡ ErrorKind.WouldBlock → result ≡ left - PAUSE }
+    ensures failed { reason ≢ ErrorKind.Interrupted → reason ≢ ErrorKind.WouldBlock → result ≡ 0 }
 {
     if left <= PAUSE {
         return 0;
