@@ -16,7 +16,8 @@ use Rattle.base.proofs.Lists.{any_has, has_any, all_has, has_all, all_append}
 use Rattle.base.proofs.Places.{element}
 use Rattle.base.proofs.Tests.{same_test, or_left, or_right, T-is, not_or, not_and, by_less}
 use Rattle.words.specs.Bias.{bias}
-use Rattle.model.specs.Tables.{Bounds, Row, Comparison, Clause, Condition, comparison_holds, clause_holds, condition_holds, within}
+use Rattle.model.specs.Tables.{Row, Comparison, Clause, Condition, comparison_holds, clause_holds, condition_holds, within}
+use Rattle.model.specs.declared.Bounds.{Bounds}
 use Rattle.zone.specs.declared.Constraint.{Constraint}
 use Rattle.zone.specs.Zone.{Zone, level, allows, tightened}
 use Rattle.solver.specs.Obeying.{ObeysSome}

@@ -12,7 +12,8 @@ use mir.Facts.{and_yes}
 use Rattle.base.specs.Lists.{◌∈◌, at, all_of}
 use Rattle.base.proofs.Lists.{all_has}
 use Rattle.base.proofs.Places.{element, tabulate_at}
-use Rattle.words.specs.Compare.{Op, less, at_most, equal, at_least, more}
+use Rattle.words.specs.declared.Op.{Op}
+use Rattle.words.specs.declared.Op.TheVariants.{Less, AtMost, Equal, AtLeast, More}
 use Rattle.model.specs.Tables.{Comparison, Clause, Condition}
 use Rattle.zone.specs.declared.Constraint.{Constraint}
 use Rattle.zone.specs.Zone.{level}
@@ -39,11 +40,11 @@ module _ (n : ℕ) (a b w : ℕ) (ha : a < n) (hb : b < n) (hw : w < 2 * level) 
   back h = record { left_in = hb; right_in = ha; most_fits = h }
 
   against_fit : (o : Op) → Fits n (against o a b w).first × Fits n (against o a b w).second
-  against_fit less = (back (omega arith), back (omega arith))
-  against_fit at_most = (back (omega arith), back (omega arith))
-  against_fit equal = (forth (omega arith), back (omega arith))
-  against_fit at_least = (forth (omega arith), forth (omega arith))
-  against_fit more = (forth (omega arith), forth (omega arith))
+  against_fit Less = (back (omega arith), back (omega arith))
+  against_fit AtMost = (back (omega arith), back (omega arith))
+  against_fit Equal = (forth (omega arith), back (omega arith))
+  against_fit AtLeast = (forth (omega arith), forth (omega arith))
+  against_fit More = (forth (omega arith), forth (omega arith))
 
 module _ (n : ℕ) where
   negations_fit : (k : Comparison) → T (comparison_fits n k) → Fits (suc n) (negations_of k).first × Fits (suc n) (negations_of k).second

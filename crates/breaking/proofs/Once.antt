@@ -10,7 +10,8 @@ use mir.Facts.{and_yes, or_yes}
 use Rattle.base.specs.Lists.{◌∈◌, any_of}
 use Rattle.base.proofs.Lists.{any_has, has_any, any_append}
 use Rattle.base.proofs.Tests.{is_T, same_test, or_left}
-use Rattle.words.specs.Compare.{Op, less, at_most, equal, at_least, more}
+use Rattle.words.specs.declared.Op.{Op}
+use Rattle.words.specs.declared.Op.TheVariants.{Less, AtMost, Equal, AtLeast, More}
 use Rattle.model.specs.Tables.{Comparison, Clause}
 use Rattle.zone.specs.declared.Constraint.{Constraint}
 use Rattle.solver.specs.Comparisons.{node_of, added_to, list_of, against, negations_of}
@@ -77,11 +78,11 @@ module _ (p : Constraint → Bool) where
   twice c = or_self (p c) ∙ sym (or-false (p c))
 
   against_any : (o : Op) (a b w : ℕ) → (p (against o a b w).first || p (against o a b w).second) ≡ any_of p (list_of (against o a b w))
-  against_any less a b w = twice (against less a b w).first
-  against_any at_most a b w = twice (against at_most a b w).first
-  against_any equal a b w = rw (or-false (p (against equal a b w).second))
-  against_any at_least a b w = twice (against at_least a b w).first
-  against_any more a b w = twice (against more a b w).first
+  against_any Less a b w = twice (against Less a b w).first
+  against_any AtMost a b w = twice (against AtMost a b w).first
+  against_any Equal a b w = rw (or-false (p (against Equal a b w).second))
+  against_any AtLeast a b w = twice (against AtLeast a b w).first
+  against_any More a b w = twice (against More a b w).first
 
   clause_any : (ws : List Constraint) (c : Clause)
       → any_of p (with_clause ws c) ≡ (any_of p ws || any_of (λ k. any_of p (list_of (negations_of k))) c)

@@ -14,7 +14,9 @@ use mir.Facts.{and_yes, yes_and}
 use Rattle.base.specs.Lists.{◌∈◌, any_of, all_of, flat_map}
 use Rattle.base.proofs.Lists.{all_has, has_all, flat_map_has, any_append, all_append}
 use Rattle.base.proofs.Tests.{not_or, not_and}
-use Rattle.words.specs.Compare.{Op, equal, holds}
+use Rattle.words.specs.Compare.{holds}
+use Rattle.words.specs.declared.Op.{Op}
+use Rattle.words.specs.declared.Op.TheVariants.{Equal}
 use Rattle.model.specs.Tables.{Row, Against, column, number, Comparison, Clause, Condition, value, operand, comparison_holds, clause_holds, condition_holds}
 use Rattle.model.specs.Rows.{same_row}
 use Rattle.solver.specs.Comparisons.{opposites}
@@ -53,7 +55,7 @@ shifted n k = map (map (further n)) k
 
 -- columns have the values of those n further on
 abbrev repeated : ℕ → ℕ → Comparison
-repeated n c = record { op = equal; left = c; right = column (n + c) }
+repeated n c = record { op = Equal; left = c; right = column (n + c) }
 
 abbrev pub agreement : ℕ → List ℕ → Condition
 agreement n cs = map (repeated n) cs ∷ []

@@ -11,7 +11,8 @@ use mir.Facts.{yes_and}
 use Rattle.base.specs.Lists.{any_of, all_of}
 use Rattle.base.proofs.Lists.{any_has, has_any, pairwise_length, pairwise_append, pairwise_split, all_append}
 use Rattle.base.proofs.Tests.{same_test}
-use Rattle.model.specs.Tables.{Bounds, Row, Clause, Condition, inside, within, clause_holds}
+use Rattle.model.specs.Tables.{Row, Clause, Condition, inside, within, clause_holds}
+use Rattle.model.specs.declared.Bounds.{Bounds}
 use Rattle.model.specs.Rows.{some_row, two_rows}
 use Rattle.model.specs.Least.{least_row}
 use Rattle.model.proofs.Rows.{some_has, has_some, two_has, has_two}

@@ -1,8 +1,10 @@
 -- Document 01, "Cases": what each of 1 to 15 states, as entries of one table. proofs/Theorems.antt shows that every entry holds.
 use Rattle.std.specs.Prelude.{◌≡◌, List, [], ◌∷◌, ℕ, ◌<◌, length, pos, T}
 use Rattle.std.proofs.Math.Option.{Option, none, some}
-use Rattle.words.specs.Compare.{Op, less, equal, at_least, more}
-use Rattle.model.specs.Tables.{Bounds, Table, column, number, Comparison, Clause, Condition, Expression, Job, Row, Database, WithinBounds}
+use Rattle.words.specs.declared.Op.{Op}
+use Rattle.words.specs.declared.Op.TheVariants.{Less, Equal, AtLeast, More}
+use Rattle.model.specs.Tables.{Table, column, number, Comparison, Clause, Condition, Expression, Job, Row, Database, WithinBounds}
+use Rattle.model.specs.declared.Bounds.{Bounds}
 use Rattle.model.specs.WellFormed.{well_formed}
 use Rattle.model.specs.Least.{least_row}
 use Rattle.model.specs.Verdict.{columns, kind_of, listing_of, query_rows}
@@ -79,7 +81,7 @@ job t e q = record { tables = t ∷ []; extract = e; query = q }
 
 -- 2 and 3: the query wants B above n
 abbrev job2 : ℕ → Job
-job2 n = job (abc 50) (over0 (A ∷ C ∷ []) (one (to_number B more 5 ∷ []))) (over0 (A ∷ []) (one (to_number B more n ∷ to_number C less 20 ∷ [])))
+job2 n = job (abc 50) (over0 (A ∷ C ∷ []) (one (to_number B More 5 ∷ []))) (over0 (A ∷ []) (one (to_number B More n ∷ to_number C Less 20 ∷ [])))
 
 -- 4 and 5: B has the bounds b
 abbrev job4 : Bounds → Job
@@ -90,13 +92,13 @@ abbrev job8 : ℕ → Job
 job8 n = record {
   tables = abc 9 ∷ (between 0 9 ∷ []) ∷ [];
   extract = over0 (A ∷ []) all;
-  query = over01 (A ∷ []) (one (to_number A more n ∷ []));
+  query = over01 (A ∷ []) (one (to_number A More n ∷ []));
 }
 
 abbrev job9 : Job
 job9 =
-    job (abc 9) (over0 (A ∷ []) ((to_number A equal 1 ∷ to_number B equal 5 ∷ []) ∷ (to_number A equal 2 ∷ []) ∷ []))
-    (over0 (B ∷ []) (one (to_number A equal 1 ∷ to_number B equal 5 ∷ [])))
+    job (abc 9) (over0 (A ∷ []) ((to_number A Equal 1 ∷ to_number B Equal 5 ∷ []) ∷ (to_number A Equal 2 ∷ []) ∷ []))
+    (over0 (B ∷ []) (one (to_number A Equal 1 ∷ to_number B Equal 5 ∷ [])))
 
 -- 12: document 004's variables, in the order in which document 01 gives their values
 abbrev t : ℕ
@@ -117,14 +119,14 @@ txzy = between 0 50 ∷ between 0 50 ∷ between 0 50 ∷ between 0 50 ∷ []
 -- B' of document 004, section 4, in its order
 abbrev section4 : List Comparison
 section4 =
-    to_number x more 10
-    ∷ to_number y less 20
-    ∷ to_number z more 15
-    ∷ to_number x less 25
-    ∷ to_column x less y
-    ∷ to_column z less y
-    ∷ to_column x less z
-    ∷ to_column t less z
+    to_number x More 10
+    ∷ to_number y Less 20
+    ∷ to_number z More 15
+    ∷ to_number x Less 25
+    ∷ to_column x Less y
+    ∷ to_column z Less y
+    ∷ to_column x Less z
+    ∷ to_column t Less z
     ∷ []
 
 -- ---- The table
@@ -135,7 +137,7 @@ case n s = record { number = n; states = s }
 unfoldable pub cases : List Entry
 cases =
     -- what the query tests is stored
-    case 1 (kind (job (abc 9) (over0 (A ∷ B ∷ []) all) (over0 (A ∷ []) (one (to_number B more 5 ∷ [])))) 0)
+    case 1 (kind (job (abc 9) (over0 (A ∷ B ∷ []) all) (over0 (A ∷ []) (one (to_number B More 5 ∷ [])))) 0)
     -- B is tested further than by the extract, and isn't stored
     ∷ case 2 (kind (job2 10) 3)
     -- B is tested as by the extract
@@ -145,9 +147,9 @@ cases =
     -- B has one value
     ∷ case 5 (kind (job4 (between 7 7)) 0)
     -- the query wants a row with B 6, which the extract doesn't keep
-    ∷ case 6 (kind (job (abc 9) (over0 (A ∷ []) (one (to_number B more 6 ∷ []))) (over0 (A ∷ []) (one (to_number B more 5 ∷ [])))) 2)
+    ∷ case 6 (kind (job (abc 9) (over0 (A ∷ []) (one (to_number B More 6 ∷ []))) (over0 (A ∷ []) (one (to_number B More 5 ∷ [])))) 2)
     -- the same rows, in other words
-    ∷ case 7 (kind (job (abc 9) (over0 (A ∷ []) (one (to_number B more 5 ∷ []))) (over0 (A ∷ []) (one (to_number B at_least 6 ∷ [])))) 0)
+    ∷ case 7 (kind (job (abc 9) (over0 (A ∷ []) (one (to_number B More 5 ∷ []))) (over0 (A ∷ []) (one (to_number B AtLeast 6 ∷ [])))) 0)
     -- other tables, but no A is that high
     ∷ case 8 (kind (job8 9) 0)
     ∷ case 8 (no_rows (job8 9))
@@ -157,15 +159,15 @@ cases =
     -- other tables
     ∷ case 10 (kind (job8 8) 1)
     -- "equal" doesn't undo what stands before it
-    ∷ case 11 (least (abc 9) (to_number A more 7 ∷ to_number A equal 5 ∷ []) none)
+    ∷ case 11 (least (abc 9) (to_number A More 7 ∷ to_number A Equal 5 ∷ []) none)
     -- t, x, z and y; and with one comparison more
     ∷ case 12 (least txzy section4 (some (pos 0 ∷ pos 11 ∷ pos 16 ∷ pos 17 ∷ [])))
-    ∷ case 12 (least txzy (to_number t more 20 ∷ section4) none)
+    ∷ case 12 (least txzy (to_number t More 20 ∷ section4) none)
     -- a cycle
-    ∷ case 13 (least (abc 9) (to_column A less B ∷ to_column B less A ∷ []) none)
+    ∷ case 13 (least (abc 9) (to_column A Less B ∷ to_column B Less A ∷ []) none)
     -- C, which isn't compared, at its lo; and no room for three
-    ∷ case 14 (least (abc 1) (to_column A less B ∷ []) (some (pos 0 ∷ pos 1 ∷ pos 0 ∷ [])))
-    ∷ case 14 (least (abc 1) (to_column A less B ∷ to_column B less C ∷ []) none)
+    ∷ case 14 (least (abc 1) (to_column A Less B ∷ []) (some (pos 0 ∷ pos 1 ∷ pos 0 ∷ [])))
+    ∷ case 14 (least (abc 1) (to_column A Less B ∷ to_column B Less C ∷ []) none)
     -- B and C aren't stored, and change together
-    ∷ case 15 (kind (job (abc 9) (over0 (A ∷ []) (one (to_column B equal C ∷ []))) (over0 (A ∷ []) (one (to_number B equal 0 ∷ to_column B equal C ∷ [])))) 3)
+    ∷ case 15 (kind (job (abc 9) (over0 (A ∷ []) (one (to_column B Equal C ∷ []))) (over0 (A ∷ []) (one (to_number B Equal 0 ∷ to_column B Equal C ∷ [])))) 3)
     ∷ []

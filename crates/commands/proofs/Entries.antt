@@ -15,7 +15,8 @@ use borrow.Author.Tests.{lt-ltb, le-ltb, le-leb, lt-leb, ltb-true}
 use Rattle.base.specs.Lists.{any_of, is_empty, last_of}
 use Rattle.base.proofs.Tests.{T-is, is_T}
 use Rattle.model.specs.Tables as model
-use Rattle.model.specs.Tables.{Bounds, Table, Against, column, number, columns_of}
+use Rattle.model.specs.Tables.{Table, Against, column, number, columns_of}
+use Rattle.model.specs.declared.Bounds.{Bounds}
 use Rattle.words.specs.Compare.{op_at}
 use Rattle.model.specs.WellFormed.{in_scope, against_in_scope, in_range, against_limited}
 use Rattle.job.specs.declared.Comparison.{Comparison}

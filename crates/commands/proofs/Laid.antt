@@ -12,7 +12,8 @@ use Rattle.base.specs.Arrays.{padded}
 use Rattle.base.proofs.Lists.{map_snoc, length_last, concat_more, concat_last}
 use Rattle.base.proofs.Arrays.{get_or_padded, set_padded, padded_more, padded_same}
 use Rattle.model.specs.Tables as model
-use Rattle.model.specs.Tables.{Bounds, Table, columns_of}
+use Rattle.model.specs.Tables.{Table, columns_of}
+use Rattle.model.specs.declared.Bounds.{Bounds}
 use Rattle.job.specs.declared.Condition.{Condition}
 use Rattle.job.specs.declared.Expression.{Expression}
 use Rattle.job.specs.declared.Job.{Job}

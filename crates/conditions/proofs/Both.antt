@@ -11,7 +11,8 @@ use Rattle.base.specs.Lists.{any_of, all_of}
 use Rattle.base.specs.Options.{and_then, first_of}
 use Rattle.base.proofs.Lists.{any_append, all_append}
 use Rattle.model.specs.Tables as model
-use Rattle.model.specs.Tables.{Bounds, Row, comparison_holds, clause_holds, condition_holds}
+use Rattle.model.specs.Tables.{Row, comparison_holds, clause_holds, condition_holds}
+use Rattle.model.specs.declared.Bounds.{Bounds}
 use Rattle.zone.specs.Zone.{Zone, Closed}
 use Rattle.zone.proofs.Answers.{Answers}
 use Rattle.solver.specs.Solver.{bounds_fit, comparison_fits, imposed_all}

@@ -12,7 +12,8 @@ use Rattle.base.specs.Lists.{◌∈◌, any_of, all_of}
 use Rattle.base.specs.Options.{and_then, is_some, or_else, first_of}
 use Rattle.base.proofs.Lists.{all_has, any_and}
 use Rattle.base.proofs.Tests.{same_test, or_left, or_right}
-use Rattle.model.specs.Tables.{Bounds, Row, Condition, clause_holds, condition_holds, within}
+use Rattle.model.specs.Tables.{Row, Condition, clause_holds, condition_holds, within}
+use Rattle.model.specs.declared.Bounds.{Bounds}
 use Rattle.model.specs.Rows.{some_row}
 use Rattle.model.proofs.Rows.{some_has, has_some}
 use Rattle.zone.specs.Zone.{Zone, least_of}

@@ -16,7 +16,8 @@ use Rattle.base.proofs.Tests.{same_test}
 use Rattle.words.specs.Bias.{bias, biased}
 use Rattle.words.specs.Compare.{eq_z}
 use Rattle.words.proofs.Biases.{biased_eq}
-use Rattle.model.specs.Tables.{Bounds, Row, Comparison, Clause, value, comparison_holds, clause_holds, within, inside}
+use Rattle.model.specs.Tables.{Row, Comparison, Clause, value, comparison_holds, clause_holds, within, inside}
+use Rattle.model.specs.declared.Bounds.{Bounds}
 use Rattle.model.specs.Rows.{some_row}
 use Rattle.model.proofs.Rows.{some_has, has_some}
 use Rattle.zone.specs.declared.Constraint.{Constraint}

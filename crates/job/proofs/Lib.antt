@@ -1,6 +1,7 @@
 pub mod Meaning
-pub mod Alike
 pub mod Equal
+pub mod Derived
+pub mod Defaults
 pub mod Tidy
 pub mod Records
 pub mod Declared

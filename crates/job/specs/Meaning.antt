@@ -3,7 +3,8 @@ use Rattle.std.specs.Prelude.{cond, List, [], ◌∷◌, ◌++◌, map, ℕ, suc
 use Rattle.base.specs.Lists.{filter}
 use Rattle.base.specs.Arrays.{padded}
 use Rattle.model.specs.Tables as model
-use Rattle.model.specs.Tables.{Bounds, Table, Against, column, number, columns_of}
+use Rattle.model.specs.Tables.{Table, Against, column, number, columns_of}
+use Rattle.model.specs.declared.Bounds.{Bounds}
 use Rattle.words.specs.Compare.{op_at, number_of_op}
 use Rattle.job.specs.declared.Column.{Column}
 use Rattle.job.specs.declared.Comparison.{Comparison}

@@ -12,7 +12,8 @@ use borrow.Author.Tests.{eqb-true}
 use Rattle.layout.specs.Sound.{Sound}
 use Rattle.base.specs.Lists.{all_of, is_empty}
 use Rattle.base.proofs.Lists.{all_weaker, all_both, all_concat}
-use Rattle.model.specs.Tables.{Bounds, Table, Job, columns_of}
+use Rattle.model.specs.Tables.{Table, Job, columns_of}
+use Rattle.model.specs.declared.Bounds.{Bounds}
 use Rattle.model.specs.WellFormed.{in_range, structured, limited, well_formed}
 use Rattle.layout.specs.Reading.{State, at_start, Step, next, stop, step_of, Reading, accepted, refused, ended, onward, read_from, starts, read_of}
 use Rattle.layout.proofs.Keeps.{begun_formed}

@@ -13,7 +13,8 @@ use Rattle.layout.specs.Sound.{Sound}
 use Rattle.base.specs.Lists.{flat_map, is_empty, in_last}
 use Rattle.base.proofs.Lists.{flat_map_append, some_snoc}
 use Rattle.words.specs.Word.{value_at}
-use Rattle.model.specs.Tables.{Bounds, Table, Against, column, number, Comparison, Clause, Expression, Job}
+use Rattle.model.specs.Tables.{Table, Against, column, number, Comparison, Clause, Expression, Job}
+use Rattle.model.specs.declared.Bounds.{Bounds}
 use Rattle.words.specs.Compare.{op_at}
 use Rattle.words.proofs.Ops.{op_back}
 use Rattle.layout.specs.declared.Command.{Command}

@@ -15,7 +15,8 @@ use Rattle.layout.specs.Sound.{Begun, Sound}
 use Rattle.base.specs.Lists.{any_of, all_of, is_empty, last_of, in_last}
 use Rattle.base.proofs.Lists.{all_snoc, some_snoc, all_weaker, all_both, all_last, length_last, some_last, last_filled, concat_more, concat_last}
 use Rattle.words.specs.Word.{value_at}
-use Rattle.model.specs.Tables.{Bounds, Table, Against, column, number, Comparison, Condition, Expression, Job, columns_of, uses}
+use Rattle.model.specs.Tables.{Table, Against, column, number, Comparison, Condition, Expression, Job, columns_of, uses}
+use Rattle.model.specs.declared.Bounds.{Bounds}
 use Rattle.words.specs.Compare.{op_at}
 use Rattle.model.specs.WellFormed.{in_scope, against_in_scope, comparison_formed, in_range, against_limited, expression_formed, condition_limited}
 use Rattle.layout.specs.declared.Command.{Command}

@@ -12,8 +12,11 @@ use Rattle.model.proofs.Formed.{Formed, Limited, WellFormed, near, range_word}
 use Rattle.base.specs.Lists.{any_of, all_of, concat, is_empty, flat_map, last_of}
 use Rattle.base.proofs.Lists.{all_among, last_append, in_last_lem, length_concat, all_concat}
 use Rattle.base.proofs.Tests.{or_right}
-use Rattle.words.specs.Compare.{Op, less, at_most, equal, at_least, more, number_of_op}
-use Rattle.model.specs.Tables.{Bounds, Table, Against, column, number, Comparison, Clause, Expression, Job, columns_of, table_of, uses}
+use Rattle.words.specs.Compare.{number_of_op}
+use Rattle.words.specs.declared.Op.{Op}
+use Rattle.words.specs.declared.Op.TheVariants.{Less, AtMost, Equal, AtLeast, More}
+use Rattle.model.specs.Tables.{Table, Against, column, number, Comparison, Clause, Expression, Job, columns_of, table_of, uses}
+use Rattle.model.specs.declared.Bounds.{Bounds}
 use Rattle.model.specs.WellFormed.{table_formed, in_scope, against_in_scope, comparison_formed, in_range, against_limited}
 use Rattle.words.proofs.Ops.{op_number}
 use Rattle.layout.specs.declared.Command.{Command}
@@ -154,11 +157,11 @@ take_in true l j e f w o i a h = run_one w o h (rw (a (with_current true j e)))
 take_in false l j e f w o i a h = run_one w o h (rw (i, a (with_current false j e)))
 
 op_below : (o : Op) → number_of_op o ≤ 4
-op_below less = omega arith
-op_below at_most = omega arith
-op_below equal = omega arith
-op_below at_least = omega arith
-op_below more = omega arith
+op_below Less = omega arith
+op_below AtMost = omega arith
+op_below Equal = omega arith
+op_below AtLeast = omega arith
+op_below More = omega arith
 
 abbrev up_to : List ℕ → List ℕ → List Clause → Expression
 up_to us os ks = record { used = us; outputs = os; condition = ks }

@@ -4,8 +4,10 @@ use mathlib.Core.Path.{◌≡◌, refl}
 use mathlib.Core.List.{List, [], ◌∷◌, ◌++◌, map}
 use Prim.Native.Nat.{ℕ, zero, suc}
 use lib.IntN.{pos, negsuc}
-use Rattle.words.specs.Compare.{Op, less, at_most, equal, at_least, more}
-use Rattle.model.specs.Tables.{Bounds, Against, column, number, Comparison, Job, uses}
+use Rattle.words.specs.declared.Op.{Op}
+use Rattle.words.specs.declared.Op.TheVariants.{Less, AtMost, Equal, AtLeast, More}
+use Rattle.model.specs.Tables.{Against, column, number, Comparison, Job, uses}
+use Rattle.model.specs.declared.Bounds.{Bounds}
 use Rattle.layout.specs.Commands.{start_bytes, command_of}
 use Rattle.layout.specs.Reading.{Reading, accepted, refused, read_of, step_of, taken}
 use Rattle.layout.specs.Writing.{job_bytes, entries_of, expression_entries}
@@ -24,7 +26,7 @@ example_job : Job
 example_job = record {
   tables = (digit ∷ digit ∷ []) ∷ [];
   extract = record { used = 0 ∷ []; outputs = 0 ∷ []; condition = [] ∷ [] };
-  query = record { used = 0 ∷ []; outputs = 0 ∷ []; condition = (record { op = more; left = 1; right = number (pos 5) } ∷ []) ∷ [] };
+  query = record { used = 0 ∷ []; outputs = 0 ∷ []; condition = (record { op = More; left = 1; right = number (pos 5) } ∷ []) ∷ [] };
 }
 
 example_read : read_of example ≡ accepted example_job
@@ -58,13 +60,13 @@ several_job = record {
     outputs = 2 ∷ 0 ∷ [];
     condition =
         []
-        ∷ (against at_most 0 (number (negsuc 0)) ∷ against at_least 0 (column 2) ∷ against equal 1 (column 1)
-        ∷ against less 2 (number (pos 7)) ∷ against more 1 (number (negsuc 9)) ∷ [])
-        ∷ (against less 0 (column 1) ∷ [])
+        ∷ (against AtMost 0 (number (negsuc 0)) ∷ against AtLeast 0 (column 2) ∷ against Equal 1 (column 1)
+        ∷ against Less 2 (number (pos 7)) ∷ against More 1 (number (negsuc 9)) ∷ [])
+        ∷ (against Less 0 (column 1) ∷ [])
         ∷ []
         ∷ [];
   };
-  query = record { used = 1 ∷ []; outputs = 2 ∷ []; condition = (against equal 2 (number (pos 3)) ∷ []) ∷ [] };
+  query = record { used = 1 ∷ []; outputs = 2 ∷ []; condition = (against Equal 2 (number (pos 3)) ∷ []) ∷ [] };
 }
 
 several_read : read_of several ≡ accepted several_job

@@ -11,7 +11,8 @@ use mir.Facts.{and_yes}
 use Rattle.base.specs.Lists.{◌∈◌, all_of, is_empty}
 use Rattle.base.proofs.Lists.{all_has, all_weaker}
 use Rattle.words.specs.Word.{sign_bit}
-use Rattle.model.specs.Tables.{Bounds, Table, Clause, Condition, Expression, Job, columns_of}
+use Rattle.model.specs.Tables.{Table, Clause, Condition, Expression, Job, columns_of}
+use Rattle.model.specs.declared.Bounds.{Bounds}
 use Rattle.model.specs.WellFormed.{table_formed, ascending, no_repeats, in_scope, comparison_formed, expression_formed, structured, in_range, against_limited, condition_limited, limited, well_formed}
 
 -- ---- tests in a row

@@ -16,9 +16,12 @@ use lib.Dec.{T, T_not, not_T}
 use Rattle.base.specs.Lists.{◌∈◌, all_of, filter}
 use Rattle.base.proofs.Lists.{pairwise_refl, pairwise_length, filter_has, has_filter, find_some, find_none}
 use Rattle.base.proofs.Tests.{stable}
-use Rattle.words.specs.Compare.{Op, less, at_most, equal, at_least, more, holds}
+use Rattle.words.specs.Compare.{holds}
+use Rattle.words.specs.declared.Op.{Op}
+use Rattle.words.specs.declared.Op.TheVariants.{Less, AtMost, Equal, AtLeast, More}
 use Rattle.words.proofs.Order.{eq_z_is, eq_z_refl, le_z_refl, le_z_trans, le_z_lt_z_trans, le_z_antisym, nle_z_le}
-use Rattle.model.specs.Tables.{Bounds, Row, Against, column, number, Comparison, value, operand, comparison_holds, clause_holds, inside, within}
+use Rattle.model.specs.Tables.{Row, Against, column, number, Comparison, value, operand, comparison_holds, clause_holds, inside, within}
+use Rattle.model.specs.declared.Bounds.{Bounds}
 use Rattle.model.specs.Rows.{box, some_row}
 use Rattle.model.specs.Least.{at_most_row, is_least, least_row}
 use Rattle.model.proofs.Rows.{box_has, has_box, some_has, has_some}
@@ -68,11 +71,11 @@ lesser_lt a b c d h k = go (le_z b d)
     go false = le_z_lt_z_trans (lesser a c) c d (lesser_right a c) k
 
 lesser_holds : (o : Op) (a b c d : ℤ) → T (holds o a b) → T (holds o c d) → T (holds o (lesser a c) (lesser b d))
-lesser_holds less a b c d h k = lesser_lt a b c d h k
-lesser_holds at_most a b c d h k = lesser_le a b c d h k
-lesser_holds equal a b c d h k = rw (eq_z_is a b h, eq_z_is c d k) (eq_z_refl (lesser b d))
-lesser_holds at_least a b c d h k = lesser_le b a d c h k
-lesser_holds more a b c d h k = lesser_lt b a d c h k
+lesser_holds Less a b c d h k = lesser_lt a b c d h k
+lesser_holds AtMost a b c d h k = lesser_le a b c d h k
+lesser_holds Equal a b c d h k = rw (eq_z_is a b h, eq_z_is c d k) (eq_z_refl (lesser b d))
+lesser_holds AtLeast a b c d h k = lesser_le b a d c h k
+lesser_holds More a b c d h k = lesser_lt b a d c h k
 
 -- ---- the lesser values of two rows
 abbrev meet : Row → Row → Row
@@ -179,10 +182,10 @@ module _ (bs : List Bounds) (ks : List Comparison) where
   unfolding least_row is_least
   least_is r e =
       let (m, t) = find_some (is_least bs ks) (box bs) e in
-      let more : Row → Bool = λ s. clause_holds s ks && not (at_most_row r s) in
-      let (h, n) = and_yes (clause_holds r ks) (not (some_row bs more)) t in
+      let More : Row → Bool = λ s. clause_holds s ks && not (at_most_row r s) in
+      let (h, n) = and_yes (clause_holds r ks) (not (some_row bs More)) t in
       let low : (s : Row) → Solves s → T (at_most_row r s) = λ s (w, i). stable (at_most_row r s) (λ k.
-      T_not (some_row bs more) n (has_some bs more s w (yes_and (clause_holds s ks) (not (at_most_row r s)) i k))) in
+      T_not (some_row bs More) n (has_some bs More s w (yes_and (clause_holds s ks) (not (at_most_row r s)) i k))) in
       ((box_has bs m, h), low)
 
   pub least_found_lem : (r : Row) → Solves r → least_row bs ks ≡ none → ⊥
@@ -190,10 +193,10 @@ module _ (bs : List Bounds) (ks : List Comparison) where
   least_found_lem r h e =
       let meets : Row → Bool = λ s. clause_holds s ks in
       let (m, hm, low, all) = lowest r (filter meets (box bs)) h (λ s n. let (b, i) = filter_has meets (box bs) n in (box_has bs b, i)) in
-      let more : Row → Bool = λ s. clause_holds s ks && not (at_most_row m s) in
-      find_none (is_least bs ks) (has_box bs m hm.0) (yes_and (clause_holds m ks) (not (some_row bs more)) hm.1
-      (not_T (some_row bs more) (λ t.
-      let (s, w, x) = some_has bs more t in
+      let More : Row → Bool = λ s. clause_holds s ks && not (at_most_row m s) in
+      find_none (is_least bs ks) (has_box bs m hm.0) (yes_and (clause_holds m ks) (not (some_row bs More)) hm.1
+      (not_T (some_row bs More) (λ t.
+      let (s, w, x) = some_has bs More t in
       let (i, n) = and_yes (clause_holds s ks) (not (at_most_row m s)) x in
       T_not (at_most_row m s) n (all s (has_filter meets (has_box bs s w) i))))) e
 

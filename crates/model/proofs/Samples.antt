@@ -9,8 +9,10 @@ use lib.IntN.{ℤ, pos, negsuc}
 use lib.ListN.{replicate}
 use lib.Dec.{T, eqb}
 use Rattle.base.specs.Lists.{all_of}
-use Rattle.words.specs.Compare.{Op, less, equal, more}
-use Rattle.model.specs.Tables.{rows_of, uses, Row, OutputRow, outputs_of, Table, meets, condition_holds, clause_holds, Job, column, Bounds, number, Condition, Expression, Comparison, TableRow, table_of}
+use Rattle.words.specs.declared.Op.{Op}
+use Rattle.words.specs.declared.Op.TheVariants.{Less, Equal, More}
+use Rattle.model.specs.Tables.{rows_of, uses, Row, OutputRow, outputs_of, Table, meets, condition_holds, clause_holds, Job, column, number, Condition, Expression, Comparison, TableRow, table_of}
+use Rattle.model.specs.declared.Bounds.{Bounds}
 use Rattle.model.specs.WellFormed.{limited, expression_formed, condition_limited, structured, well_formed}
 use Rattle.model.specs.Rows.{two_rows, values_of, some_row}
 use Rattle.model.specs.Least.{least_row, is_least}
@@ -37,10 +39,10 @@ abbrev against : Op → ℕ → ℕ → Comparison
 against o c d = record { op = o; left = c; right = column d }
 
 abbrev above : ℕ → ℤ → Comparison
-above c n = record { op = more; left = c; right = number n }
+above c n = record { op = More; left = c; right = number n }
 
 abbrev is : ℕ → ℤ → Comparison
-is c n = record { op = equal; left = c; right = number n }
+is c n = record { op = Equal; left = c; right = number n }
 
 abbrev all : Condition
 all = [] ∷ []
@@ -87,7 +89,7 @@ samples : List (List Sample)
 samples =
     both true true plain
     ∷ both true true (over (0 ∷ 1 ∷ []) (2 ∷ 0 ∷ []) [])
-    ∷ both true true (over (1 ∷ []) (2 ∷ []) ((against less 2 2 ∷ above 2 (pos 1000000) ∷ above 2 (negsuc 999999) ∷ []) ∷ [] ∷ []))
+    ∷ both true true (over (1 ∷ []) (2 ∷ []) ((against Less 2 2 ∷ above 2 (pos 1000000) ∷ above 2 (negsuc 999999) ∷ []) ∷ [] ∷ []))
     -- no used table, one that isn't declared, two that don't ascend
     ∷ both false true (over [] (0 ∷ []) [])
     ∷ both false true (over (0 ∷ 2 ∷ []) (0 ∷ []) [])
@@ -101,15 +103,15 @@ samples =
     ∷ both false true (over (0 ∷ 1 ∷ []) (3 ∷ []) [])
     ∷ both false true (table0 (2 ∷ []) [])
     -- the same of either side of a comparison
-    ∷ both false true (over (0 ∷ 1 ∷ []) (0 ∷ []) ((against less 3 0 ∷ []) ∷ []))
-    ∷ both false true (table0 (0 ∷ []) ((against less 2 0 ∷ []) ∷ []))
-    ∷ both false true (table0 (0 ∷ []) ([] ∷ (against less 0 1 ∷ against less 0 2 ∷ []) ∷ []))
+    ∷ both false true (over (0 ∷ 1 ∷ []) (0 ∷ []) ((against Less 3 0 ∷ []) ∷ []))
+    ∷ both false true (table0 (0 ∷ []) ((against Less 2 0 ∷ []) ∷ []))
+    ∷ both false true (table0 (0 ∷ []) ([] ∷ (against Less 0 1 ∷ against Less 0 2 ∷ []) ∷ []))
     -- four clauses of six comparisons; five clauses, seven comparisons, a number out of range
-    ∷ both true true (table0 (0 ∷ []) (replicate 4 (replicate 6 (against less 0 1))))
+    ∷ both true true (table0 (0 ∷ []) (replicate 4 (replicate 6 (against Less 0 1))))
     ∷ both true false (table0 (0 ∷ []) (replicate 5 []))
-    ∷ both true false (table0 (0 ∷ []) ([] ∷ replicate 7 (against less 0 1) ∷ []))
-    ∷ both true false (table0 (0 ∷ []) ([] ∷ (against less 0 1 ∷ above 0 (pos 1000001) ∷ []) ∷ []))
-    ∷ both true false (table0 (0 ∷ []) ([] ∷ (against less 0 1 ∷ above 0 (negsuc 1000000) ∷ []) ∷ []))
+    ∷ both true false (table0 (0 ∷ []) ([] ∷ replicate 7 (against Less 0 1) ∷ []))
+    ∷ both true false (table0 (0 ∷ []) ([] ∷ (against Less 0 1 ∷ above 0 (pos 1000001) ∷ []) ∷ []))
+    ∷ both true false (table0 (0 ∷ []) ([] ∷ (against Less 0 1 ∷ above 0 (negsuc 1000000) ∷ []) ∷ []))
     -- no table, a table without columns, lo above hi, lo equal to hi
     ∷ tables false false []
     ∷ tables false true ((bits ∷ []) ∷ [] ∷ [])
@@ -119,7 +121,7 @@ samples =
     ∷ tables true true (replicate 4 (replicate 4 (bounded (negsuc 999999) (pos 1000000))))
     ∷ tables true true (replicate 16 bits ∷ [])
     ∷ tables true true (replicate 4 (bounded (negsuc 999999) (negsuc 999998) ∷ []))
-    ∷ (sample true true (job four (over (0 ∷ 2 ∷ 3 ∷ []) (3 ∷ 0 ∷ 2 ∷ []) all) (over (0 ∷ 1 ∷ 2 ∷ 3 ∷ []) (3 ∷ 2 ∷ 1 ∷ 0 ∷ []) ((against less 3 2 ∷ []) ∷ []))) ∷ [])
+    ∷ (sample true true (job four (over (0 ∷ 2 ∷ 3 ∷ []) (3 ∷ 0 ∷ 2 ∷ []) all) (over (0 ∷ 1 ∷ 2 ∷ 3 ∷ []) (3 ∷ 2 ∷ 1 ∷ 0 ∷ []) ((against Less 3 2 ∷ []) ∷ []))) ∷ [])
     ∷ tables true false (replicate 5 (bits ∷ []))
     ∷ tables true false (replicate 9 bits ∷ replicate 8 bits ∷ [])
     ∷ tables true false ((bits ∷ []) ∷ (bits ∷ bounded (negsuc 1000000) (pos 0) ∷ []) ∷ [])
@@ -164,8 +166,8 @@ verdicts =
     ∷ verdict 0 (0 ∷ 3 ∷ 0 ∷ 1 ∷ []) (job four (over (1 ∷ 3 ∷ []) (3 ∷ []) all) (over (1 ∷ 3 ∷ []) (3 ∷ []) all))
     ∷ verdict 1 (1 ∷ 0 ∷ 0 ∷ 0 ∷ []) (job four plain (over (1 ∷ []) (1 ∷ []) all))
     -- the third clause counts, and the third comparison
-    ∷ verdict 0 (1 ∷ 3 ∷ 0 ∷ []) (job two (table0 (0 ∷ []) ((against less 0 0 ∷ []) ∷ (against less 0 0 ∷ []) ∷ [] ∷ [])) plain)
-    ∷ verdict 0 (1 ∷ 2 ∷ 0 ∷ []) (job two (table0 (0 ∷ []) []) (table0 (0 ∷ []) ((against equal 0 0 ∷ against equal 0 0 ∷ against less 0 0 ∷ []) ∷ [])))
+    ∷ verdict 0 (1 ∷ 3 ∷ 0 ∷ []) (job two (table0 (0 ∷ []) ((against Less 0 0 ∷ []) ∷ (against Less 0 0 ∷ []) ∷ [] ∷ [])) plain)
+    ∷ verdict 0 (1 ∷ 2 ∷ 0 ∷ []) (job two (table0 (0 ∷ []) []) (table0 (0 ∷ []) ((against Equal 0 0 ∷ against Equal 0 0 ∷ against Less 0 0 ∷ []) ∷ [])))
     -- the query uses more, the extract uses more; never met
     ∷ verdict 1 (1 ∷ 3 ∷ 0 ∷ []) (job two plain (product all))
     ∷ verdict 1 (1 ∷ 3 ∷ 3 ∷ []) (job two (product all) plain)
@@ -179,11 +181,11 @@ verdicts =
     ∷ verdict 0 (1 ∷ 3 ∷ 0 ∷ []) (job two plain (table0 (0 ∷ []) ((above 0 (pos 0) ∷ []) ∷ [])))
     ∷ verdict 2 (1 ∷ []) (job ((bounded (negsuc 0) (pos 1) ∷ []) ∷ []) (table0 (0 ∷ []) ((is 0 (pos 0) ∷ []) ∷ [])) (table0 (0 ∷ []) ((above 0 (pos 0) ∷ []) ∷ [])))
     -- two hidden columns that only change together (case 15)
-    ∷ verdict 3 (1 ∷ 3 ∷ 3 ∷ []) (job two (product ((against equal 1 2 ∷ []) ∷ [])) (product ((is 1 (pos 0) ∷ against equal 1 2 ∷ []) ∷ [])))
+    ∷ verdict 3 (1 ∷ 3 ∷ 3 ∷ []) (job two (product ((against Equal 1 2 ∷ []) ∷ [])) (product ((is 1 (pos 0) ∷ against Equal 1 2 ∷ []) ∷ [])))
     -- a hidden output: free, with one value only, fixed by the condition, known where the query asks (case 9)
     ∷ verdict 4 (1 ∷ 3 ∷ 0 ∷ []) (job two plain (table0 (1 ∷ []) all))
     ∷ verdict 0 (1 ∷ 2 ∷ []) (job ((bits ∷ bounded (pos 1) (pos 1) ∷ []) ∷ []) plain (table0 (1 ∷ []) all))
-    ∷ verdict 0 (1 ∷ 2 ∷ 0 ∷ []) (job two (table0 (0 ∷ []) ((against less 0 1 ∷ []) ∷ [])) (table0 (1 ∷ []) ((against less 0 1 ∷ []) ∷ [])))
+    ∷ verdict 0 (1 ∷ 2 ∷ 0 ∷ []) (job two (table0 (0 ∷ []) ((against Less 0 1 ∷ []) ∷ [])) (table0 (1 ∷ []) ((against Less 0 1 ∷ []) ∷ [])))
     ∷ verdict 0 (1 ∷ 3 ∷ 0 ∷ []) (job two (table0 (0 ∷ []) partly) (table0 (1 ∷ []) ((is 0 (pos 1) ∷ is 1 (pos 1) ∷ []) ∷ [])))
     ∷ []
 
@@ -221,11 +223,11 @@ query_more = refl
 
 -- ---- least rows (case 14)
 
-least : least_row (bits ∷ bits ∷ bits ∷ []) (against less 0 1 ∷ []) ≡ some (pos 0 ∷ pos 1 ∷ pos 0 ∷ [])
+least : least_row (bits ∷ bits ∷ bits ∷ []) (against Less 0 1 ∷ []) ≡ some (pos 0 ∷ pos 1 ∷ pos 0 ∷ [])
 unfolding least_row is_least clause_holds some_row values_of
 least = refl
 
-no_least : least_row (bits ∷ bits ∷ bits ∷ []) (against less 0 1 ∷ against less 1 2 ∷ []) ≡ none
+no_least : least_row (bits ∷ bits ∷ bits ∷ []) (against Less 0 1 ∷ against Less 1 2 ∷ []) ≡ none
 unfolding least_row is_least clause_holds some_row values_of
 no_least = refl
 

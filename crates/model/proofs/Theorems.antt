@@ -13,7 +13,8 @@ use Rattle.model.specs.Unused.{SameTables, job_of, used_by_either}
 use Rattle.model.proofs.Formed.{JobFormed, is_formed, job_formed}
 use Rattle.base.specs.Lists.{◌∈◌, SameSet, Distinct, any_of, all_of, once, concat, flat_map}
 use Rattle.base.proofs.Lists.{all_has, has_all, any_has, has_any, same_is, same_sym, same_trans}
-use Rattle.model.specs.Tables.{Clause, comparison_holds, Bounds, Table, Row, OutputRow, Comparison, Expression, Job, clause_holds, meets, outputs_of, uses, table_of, within, Database, WithinBounds, rows_of, columns_of, Condition, value, condition_holds, part_of, TableRow}
+use Rattle.model.specs.Tables.{Clause, comparison_holds, Table, Row, OutputRow, Comparison, Expression, Job, clause_holds, meets, outputs_of, uses, table_of, within, Database, WithinBounds, rows_of, columns_of, Condition, value, condition_holds, part_of, TableRow}
+use Rattle.model.specs.declared.Bounds.{Bounds}
 use Rattle.model.specs.WellFormed.{table_formed, expression_formed, structured, in_scope}
 use Rattle.model.specs.Rows.{some_row, two_rows, same_row}
 use Rattle.model.specs.Least.{at_most_row, least_row}

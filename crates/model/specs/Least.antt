@@ -3,7 +3,8 @@ use Rattle.std.specs.Prelude.{Bool, not, ◌&&◌, List}
 use Rattle.std.proofs.Math.Option.{Option}
 use Rattle.std.specs.Int.Signed.{le_z}
 use Rattle.base.specs.Lists.{find, pairwise}
-use Rattle.model.specs.Tables.{Bounds, Row, Comparison, clause_holds}
+use Rattle.model.specs.Tables.{Row, Comparison, clause_holds}
+use Rattle.model.specs.declared.Bounds.{Bounds}
 use Rattle.model.specs.Rows.{box, some_row}
 
 -- in every column at most

@@ -6,3 +6,4 @@ pub mod Verdict
 pub mod Pair
 pub mod Running
 pub mod Unused
+pub mod Answers

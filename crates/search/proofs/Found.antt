@@ -9,7 +9,8 @@ use lib.Dec.{T}
 use Rattle.base.specs.Lists.{any_of, all_of}
 use Rattle.base.specs.Options.{and_then}
 use Rattle.base.proofs.Lists.{any_and}
-use Rattle.model.specs.Tables.{Bounds, Row, Condition, condition_holds}
+use Rattle.model.specs.Tables.{Row, Condition, condition_holds}
+use Rattle.model.specs.declared.Bounds.{Bounds}
 use Rattle.zone.specs.declared.Constraint.{Constraint}
 use Rattle.zone.specs.Zone.{Zone}
 use Rattle.solver.specs.Solver.{bounds_fit}

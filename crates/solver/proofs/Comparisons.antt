@@ -14,10 +14,13 @@ use Rattle.base.specs.Lists.{any_of, all_of, at}
 use Rattle.base.proofs.Lists.{pairwise_length}
 use Rattle.base.proofs.Tests.{same_test, or_left, or_right, not_and}
 use Rattle.words.specs.Bias.{bias, biased}
-use Rattle.words.specs.Compare.{Op, less, at_most, equal, at_least, more, holds, eq_z}
+use Rattle.words.specs.Compare.{holds, eq_z}
+use Rattle.words.specs.declared.Op.{Op}
+use Rattle.words.specs.declared.Op.TheVariants.{Less, AtMost, Equal, AtLeast, More}
 use Rattle.words.proofs.Order.{eq_z_is, eq_z_refl, le_z_refl, le_z_antisym, lt_z_not}
 use Rattle.words.proofs.Biases.{FromBias, biased_le, biased_lt, biased_eq}
-use Rattle.model.specs.Tables.{Bounds, Row, Against, column, number, Comparison, value, operand, comparison_holds, within, inside}
+use Rattle.model.specs.Tables.{Row, Against, column, number, Comparison, value, operand, comparison_holds, within, inside}
+use Rattle.model.specs.declared.Bounds.{Bounds}
 use Rattle.zone.specs.declared.Constraint.{Constraint}
 use Rattle.zone.specs.Zone.{level, Obeys}
 use Rattle.solver.specs.Obeying.{ObeysAll, ObeysSome}
@@ -64,11 +67,11 @@ between_says a b x l r w s o = go o
     eq = eq_is a b s.left_from s.right_from
 
     go : (o : Op) → T (holds o a b) ↔ ObeysAll (list_of (between o l r w)) x
-    go less = (λ t. (omega (arith, lt.0 t), tt), λ (h, _). lt.1 (omega (arith, h)))
-    go at_most = (λ t. (omega (arith, le.0 t), tt), λ (h, _). le.1 (omega (arith, h)))
-    go equal = (λ t. (omega (arith, eq.0 t), (omega (arith, eq.0 t), tt)), λ (h, (k, _)). eq.1 (omega (arith, h, k)))
-    go at_least = (λ t. (omega (arith, ge.0 t), tt), λ (h, _). ge.1 (omega (arith, h)))
-    go more = (λ t. (omega (arith, gt.0 t), tt), λ (h, _). gt.1 (omega (arith, h)))
+    go Less = (λ t. (omega (arith, lt.0 t), tt), λ (h, _). lt.1 (omega (arith, h)))
+    go AtMost = (λ t. (omega (arith, le.0 t), tt), λ (h, _). le.1 (omega (arith, h)))
+    go Equal = (λ t. (omega (arith, eq.0 t), (omega (arith, eq.0 t), tt)), λ (h, (k, _)). eq.1 (omega (arith, h, k)))
+    go AtLeast = (λ t. (omega (arith, ge.0 t), tt), λ (h, _). ge.1 (omega (arith, h)))
+    go More = (λ t. (omega (arith, gt.0 t), tt), λ (h, _). gt.1 (omega (arith, h)))
 
 -- ---- what is added to the right node: neither too little nor too much
 pub number_added : (v : ℤ) → FromBias bias v → bias + biased level v ≡ biased bias v + level
@@ -94,11 +97,11 @@ eq_z_both a b = same_test (eq_z a b) (le_z b a && le_z a b)
     (λ h. let (ge, le) = and_yes (le_z b a) (le_z a b) h in rw (le_z_antisym a b le ge) (eq_z_refl b))
 
 pub opposites_hold : (o : Op) (a b : ℤ) → any_of (λ q. holds q a b) (opposites o) ≡ not (holds o a b)
-opposites_hold less a b = or-false (le_z b a) ∙ le_z_not b a
-opposites_hold at_most a b = or-false (lt_z b a) ∙ lt_z_not b a
-opposites_hold equal a b = rw (or-false (lt_z b a), lt_z_not a b, lt_z_not b a, eq_z_both a b) (not_and (le_z b a) (le_z a b))
-opposites_hold at_least a b = or-false (lt_z a b) ∙ lt_z_not a b
-opposites_hold more a b = or-false (le_z a b) ∙ le_z_not a b
+opposites_hold Less a b = or-false (le_z b a) ∙ le_z_not b a
+opposites_hold AtMost a b = or-false (lt_z b a) ∙ lt_z_not b a
+opposites_hold Equal a b = rw (or-false (lt_z b a), lt_z_not a b, lt_z_not b a, eq_z_both a b) (not_and (le_z b a) (le_z a b))
+opposites_hold AtLeast a b = or-false (lt_z a b) ∙ lt_z_not a b
+opposites_hold More a b = or-false (le_z a b) ∙ le_z_not a b
 
 -- one way in which a test fails, and two
 lone : (v t : Bool) → (v || false) ≡ t → {C : Type 0} → (T v ↔ C) → T t ↔ (C ⊎ ⊥)
@@ -120,14 +123,14 @@ against_says a b x l r w s o = go o
         (λ t. (says.0 t).0, λ h. says.1 (h, tt))
 
     go : (o : Op) → T (not (holds o a b)) ↔ ObeysSome (list_of (against o l r w)) x
-    go less = lone (le_z b a) (not (lt_z a b)) (opposites_hold less a b) (way at_least (between at_least l r w).first refl)
-    go at_most = lone (lt_z b a) (not (le_z a b)) (opposites_hold at_most a b) (way more (between more l r w).first refl)
-    go equal =
-        twofold (lt_z a b) (lt_z b a) (not (eq_z a b)) (opposites_hold equal a b)
-        (way less (between less l r w).first refl)
-        (way more (between more l r w).first refl)
-    go at_least = lone (lt_z a b) (not (le_z b a)) (opposites_hold at_least a b) (way less (between less l r w).first refl)
-    go more = lone (le_z a b) (not (lt_z b a)) (opposites_hold more a b) (way at_most (between at_most l r w).first refl)
+    go Less = lone (le_z b a) (not (lt_z a b)) (opposites_hold Less a b) (way AtLeast (between AtLeast l r w).first refl)
+    go AtMost = lone (lt_z b a) (not (le_z a b)) (opposites_hold AtMost a b) (way More (between More l r w).first refl)
+    go Equal =
+        twofold (lt_z a b) (lt_z b a) (not (eq_z a b)) (opposites_hold Equal a b)
+        (way Less (between Less l r w).first refl)
+        (way More (between More l r w).first refl)
+    go AtLeast = lone (lt_z a b) (not (le_z b a)) (opposites_hold AtLeast a b) (way Less (between Less l r w).first refl)
+    go More = lone (le_z a b) (not (lt_z b a)) (opposites_hold More a b) (way AtMost (between AtMost l r w).first refl)
 
 -- ---- a comparison of a row within bounds
 module _ (bs : List Bounds) (fit : T (all_of bounds_fit bs)) (r : Row) (w : T (within bs r)) where

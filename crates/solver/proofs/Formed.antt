@@ -14,7 +14,8 @@ use Rattle.base.specs.Lists.{◌∈◌, all_of, is_empty}
 use Rattle.base.proofs.Lists.{all_has, has_all}
 use Rattle.words.specs.Bias.{bias}
 use Rattle.words.proofs.Order.{le_z_trans}
-use Rattle.model.specs.Tables.{Bounds, Table, Against, column, number, Clause, Expression, Job, columns_of, table_of, uses}
+use Rattle.model.specs.Tables.{Table, Against, column, number, Clause, Expression, Job, columns_of, table_of, uses}
+use Rattle.model.specs.declared.Bounds.{Bounds}
 use Rattle.model.specs.WellFormed.{table_formed, in_scope, against_in_scope, comparison_formed, in_range, against_limited, well_formed}
 use Rattle.model.specs.Verdict.{columns}
 use Rattle.solver.specs.Solver.{fits, bounds_fit, against_fits, comparison_fits}

@@ -15,7 +15,8 @@ use Rattle.base.specs.Options.{and_then, is_some}
 use Rattle.words.specs.Bias.{bias}
 use Rattle.words.specs.Word.{sign_bit}
 use Rattle.words.proofs.Biases.{biased_low, biased_high}
-use Rattle.model.specs.Tables.{Bounds, Comparison}
+use Rattle.model.specs.Tables.{Comparison}
+use Rattle.model.specs.declared.Bounds.{Bounds}
 use Rattle.model.specs.Least.{least_row}
 use Rattle.zone.specs.Zone.{Zone, Closed, least_of}
 use Rattle.zone.specs.Array.{zone_in, laid}

@@ -18,7 +18,8 @@ use Rattle.zone.proofs.Array.{zone_length, laid_zone, laid_laid}
 use Rattle.zone.proofs.Laid.{laid_is, laid_in_array}
 use Rattle.zone.proofs.Ranges.{allows_is}
 use Rattle.zone.proofs.Closed.{tight_entry, tight_length, tight_closed}
-use Rattle.words.specs.Compare.{Op, less, at_most, equal, at_least, more}
+use Rattle.words.specs.declared.Op.{Op}
+use Rattle.words.specs.declared.Op.TheVariants.{Less, AtMost, Equal, AtLeast, More}
 use Rattle.model.specs.Tables.{Comparison}
 use Rattle.solver.specs.declared.Constraints.{Constraints}
 use Rattle.solver.specs.Comparisons.{at_most_by, both, between}
@@ -76,19 +77,19 @@ Within n c = (c.left < n) × (c.right < n) × (c.most ≤ 2 * level)
 
 between_within : (n : ℕ) (o : Op) (a b w : ℕ) → a < n → b < n → 0 < w → w < 2 * level
     → Within n (between o a b w).first × Within n (between o a b w).second
-between_within n less a b w l r s m = ((l, r, omega arith), (l, r, omega arith))
-between_within n at_most a b w l r s m = ((l, r, omega arith), (l, r, omega arith))
-between_within n equal a b w l r s m = ((l, r, omega arith), (r, l, omega arith))
-between_within n at_least a b w l r s m = ((r, l, omega arith), (r, l, omega arith))
-between_within n more a b w l r s m = ((r, l, omega arith), (r, l, omega arith))
+between_within n Less a b w l r s m = ((l, r, omega arith), (l, r, omega arith))
+between_within n AtMost a b w l r s m = ((l, r, omega arith), (l, r, omega arith))
+between_within n Equal a b w l r s m = ((l, r, omega arith), (r, l, omega arith))
+between_within n AtLeast a b w l r s m = ((r, l, omega arith), (r, l, omega arith))
+between_within n More a b w l r s m = ((r, l, omega arith), (r, l, omega arith))
 
 -- two constraints are those of "equal"
 between_two : (o : Op) (a b w : ℕ) → (between o a b w).two ≡ true → between o a b w ≡ both (at_most_by a b w) (at_most_by b a (2 * level - w))
-between_two less a b w t = absurd (false≢true t)
-between_two at_most a b w t = absurd (false≢true t)
-between_two equal a b w t = refl
-between_two at_least a b w t = absurd (false≢true t)
-between_two more a b w t = absurd (false≢true t)
+between_two Less a b w t = absurd (false≢true t)
+between_two AtMost a b w t = absurd (false≢true t)
+between_two Equal a b w t = refl
+between_two AtLeast a b w t = absurd (false≢true t)
+between_two More a b w t = absurd (false≢true t)
 
 module _ (n : ℕ) (d : List ℕ) (o : Op) (a b w : ℕ) (u : ImposesNodes n d a b w) (p : Constraints) (e : p ≡ between o a b w) where
   abbrev z : Zone

@@ -15,7 +15,8 @@ use Rattle.base.proofs.Lists.{pairwise_length}
 use Rattle.words.specs.Bias.{bias, biased, unbiased}
 use Rattle.words.proofs.Order.{le_z_trans}
 use Rattle.words.proofs.Biases.{FromBias, biased_le, biased_unbiased, unbiased_from}
-use Rattle.model.specs.Tables.{Bounds, Row, inside, within}
+use Rattle.model.specs.Tables.{Row, inside, within}
+use Rattle.model.specs.declared.Bounds.{Bounds}
 use Rattle.zone.specs.Zone.{Meets, Closed}
 use Rattle.zone.specs.Uses.{NodeBounds}
 use Rattle.zone.proofs.Box.{box_length, box_closed, box_rows_lem}

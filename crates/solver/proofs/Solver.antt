@@ -13,9 +13,11 @@ use Rattle.solver.specs.Obeying.{ObeysAll}
 use Rattle.base.specs.Lists.{all_of, at}
 use Rattle.base.specs.Options.{and_then}
 use Rattle.words.specs.Bias.{bias, biased}
-use Rattle.words.specs.Compare.{Op, less, at_most, equal, at_least, more}
+use Rattle.words.specs.declared.Op.{Op}
+use Rattle.words.specs.declared.Op.TheVariants.{Less, AtMost, Equal, AtLeast, More}
 use Rattle.words.proofs.Biases.{biased_le}
-use Rattle.model.specs.Tables.{Bounds, Row, Against, column, number, Comparison, comparison_holds, clause_holds, within, inside}
+use Rattle.model.specs.Tables.{Row, Against, column, number, Comparison, comparison_holds, clause_holds, within, inside}
+use Rattle.model.specs.declared.Bounds.{Bounds}
 use Rattle.model.specs.Least.{at_most_row, least_row}
 use Rattle.model.proofs.Theorems.{least_none, least_some}
 use Rattle.zone.specs.declared.Constraint.{Constraint}
@@ -68,11 +70,11 @@ by_answers z (c ∷ cs) cl (l, r, h) =
 
 -- ---- some comparisons
 between_in : (n : ℕ) (o : Op) (a b w : ℕ) → a < n → b < n → InZone n (list_of (between o a b w))
-between_in n less a b w h k = (h, k, tt)
-between_in n at_most a b w h k = (h, k, tt)
-between_in n equal a b w h k = (h, k, (k, h, tt))
-between_in n at_least a b w h k = (k, h, tt)
-between_in n more a b w h k = (k, h, tt)
+between_in n Less a b w h k = (h, k, tt)
+between_in n AtMost a b w h k = (h, k, tt)
+between_in n Equal a b w h k = (h, k, (k, h, tt))
+between_in n AtLeast a b w h k = (k, h, tt)
+between_in n More a b w h k = (k, h, tt)
 
 pub node_in : (n : ℕ) (t : Against) → T (against_fits n t) → node_of t < suc n
 node_in n (column c) f = omega (arith, ltb→lt c n f)

@@ -9,7 +9,8 @@ use lib.ListN.{length}
 use lib.Dec.{T}
 use Rattle.solver.specs.Obeying.{ObeysAll, ObeysSome}
 use Rattle.base.specs.Lists.{all_of}
-use Rattle.model.specs.Tables.{Bounds, Row, Comparison, within, comparison_holds, clause_holds}
+use Rattle.model.specs.Tables.{Row, Comparison, within, comparison_holds, clause_holds}
+use Rattle.model.specs.declared.Bounds.{Bounds}
 use Rattle.model.specs.Least.{least_row}
 use Rattle.zone.specs.Zone.{Zone, Meets, Closed, least_of}
 use Rattle.zone.proofs.Closed.{least_meets}

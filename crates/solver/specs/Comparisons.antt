@@ -1,7 +1,8 @@
 -- Comparisons as constraints on nodes: column c is node c + 1, and a number is that much more than node 0.
 use Rattle.std.specs.Prelude.{true, false, cond, List, [], ◌∷◌, ℕ, suc, ◌-◌, ◌*◌}
 use Rattle.words.specs.Bias.{biased}
-use Rattle.words.specs.Compare.{Op, less, at_most, equal, at_least, more}
+use Rattle.words.specs.declared.Op.{Op}
+use Rattle.words.specs.declared.Op.TheVariants.{Less, AtMost, Equal, AtLeast, More}
 use Rattle.model.specs.Tables.{Against, column, number, Comparison}
 use Rattle.zone.specs.declared.Constraint.{Constraint}
 use Rattle.zone.specs.Zone.{level}
@@ -31,11 +32,11 @@ list_of p = cond p.two (p.first ∷ p.second ∷ []) (p.first ∷ [])
 
 -- node a compared by op with node b and what is added to it
 abbrev pub between : Op → ℕ → ℕ → ℕ → Constraints
-between less a b w = one (at_most_by a b (w - 1))
-between at_most a b w = one (at_most_by a b w)
-between equal a b w = both (at_most_by a b w) (at_most_by b a (2 * level - w))
-between at_least a b w = one (at_most_by b a (2 * level - w))
-between more a b w = one (at_most_by b a (2 * level - w - 1))
+between Less a b w = one (at_most_by a b (w - 1))
+between AtMost a b w = one (at_most_by a b w)
+between Equal a b w = both (at_most_by a b w) (at_most_by b a (2 * level - w))
+between AtLeast a b w = one (at_most_by b a (2 * level - w))
+between More a b w = one (at_most_by b a (2 * level - w - 1))
 
 -- a comparison holds where all of these do
 unfoldable pub constraints_of : Comparison → Constraints
@@ -43,19 +44,19 @@ constraints_of k = between k.op (suc k.left) (node_of k.right) (added_to k.right
 
 -- one of these ops holds exactly where an op doesn't: two ways for "equal", one for the others
 abbrev pub opposites : Op → List Op
-opposites less = at_least ∷ []
-opposites at_most = more ∷ []
-opposites equal = less ∷ more ∷ []
-opposites at_least = less ∷ []
-opposites more = at_most ∷ []
+opposites Less = AtLeast ∷ []
+opposites AtMost = More ∷ []
+opposites Equal = Less ∷ More ∷ []
+opposites AtLeast = Less ∷ []
+opposites More = AtMost ∷ []
 
 -- the constraints of the opposites: the comparison fails where one of these holds
 abbrev pub against : Op → ℕ → ℕ → ℕ → Constraints
-against less a b w = between at_least a b w
-against at_most a b w = between more a b w
-against equal a b w = both (between less a b w).first (between more a b w).first
-against at_least a b w = between less a b w
-against more a b w = between at_most a b w
+against Less a b w = between AtLeast a b w
+against AtMost a b w = between More a b w
+against Equal a b w = both (between Less a b w).first (between More a b w).first
+against AtLeast a b w = between Less a b w
+against More a b w = between AtMost a b w
 
 unfoldable pub negations_of : Comparison → Constraints
 negations_of k = against k.op (suc k.left) (node_of k.right) (added_to k.right)

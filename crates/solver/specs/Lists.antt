@@ -2,7 +2,8 @@
 use Rattle.std.specs.Prelude.{List, [], ◌∷◌, ℕ, length, get_or, replicate, ℤ, pos}
 use Rattle.std.proofs.Math.Option.{Option, none, some}
 use Rattle.base.specs.Lists.{tabulate, at}
-use Rattle.model.specs.Tables.{Bounds, Row, Comparison}
+use Rattle.model.specs.Tables.{Row, Comparison}
+use Rattle.model.specs.declared.Bounds.{Bounds}
 use Rattle.job.specs.Meaning.{comparison_of}
 use Rattle.zone.specs.Zone.{Zone}
 use Rattle.solver.specs.Solver.{imposed}

@@ -5,7 +5,8 @@ use Rattle.std.specs.Int.Signed.{le_z}
 use Rattle.base.specs.Options.{and_then}
 use Rattle.base.specs.Lists.{all_of}
 use Rattle.words.specs.Bias.{bias, biased, unbiased}
-use Rattle.model.specs.Tables.{Bounds, Row, Against, column, number, Comparison}
+use Rattle.model.specs.Tables.{Row, Against, column, number, Comparison}
+use Rattle.model.specs.declared.Bounds.{Bounds}
 use Rattle.zone.specs.declared.Constraint.{Constraint}
 use Rattle.zone.specs.Zone.{Zone, boxed, constrained, least_of}
 use Rattle.solver.specs.declared.Constraints.{Constraints}

@@ -11,7 +11,8 @@ use lib.Dec.{T, eqb, eqb→eq}
 use mir.Facts.{and_yes}
 use Rattle.base.specs.Lists.{all_of, at}
 use Rattle.base.proofs.Tests.{is_T}
-use Rattle.words.specs.Compare.{Op, less, more}
+use Rattle.words.specs.declared.Op.{Op}
+use Rattle.words.specs.declared.Op.TheVariants.{Less, More}
 use Rattle.zone.specs.Zone.{Zone, Closed, level, allows, constrained, can_differ}
 use Rattle.zone.specs.Matrix.{entry}
 use Rattle.zone.specs.Array.{zone_in}
@@ -40,7 +41,7 @@ module _ {n : ℕ} {y : Zone} (closed : Closed y) (size : length y ≡ suc n) {c
 
   pub own_apart : apart c c y ≡ none
   unfolding apart constraints_of
-  own_apart = rw (own_none less refl, own_none more refl)
+  own_apart = rw (own_none Less refl, own_none More refl)
 
   pub own_same : if_differ c c y ≡ none
   unfolding if_differ can_differ

@@ -13,7 +13,8 @@ use Rattle.base.specs.Lists.{all_of, at}
 use Rattle.base.proofs.Lists.{all_has}
 use Rattle.base.proofs.Arrays.{padded_each}
 use Rattle.model.specs.Tables as model
-use Rattle.model.specs.Tables.{Bounds, Against, column, number}
+use Rattle.model.specs.Tables.{Against, column, number}
+use Rattle.model.specs.declared.Bounds.{Bounds}
 use Rattle.job.specs.Meaning.{side_of, side_number}
 use Rattle.solver.specs.Solver.{against_fits, comparison_fits}
 use Rattle.job.specs.declared.Comparison.{Comparison}

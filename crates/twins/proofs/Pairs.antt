@@ -11,8 +11,11 @@ use Rattle.base.proofs.Options.{first_some}
 use Rattle.base.specs.Lists.{◌∈◌, any_of, all_of}
 use Rattle.base.specs.Options.{and_then, is_some, first_of}
 use Rattle.base.proofs.Lists.{all_has}
-use Rattle.words.specs.Compare.{Op, less, equal, more, holds, eq_z}
-use Rattle.model.specs.Tables.{Bounds, Row, Condition, value, clause_holds, condition_holds}
+use Rattle.words.specs.Compare.{holds, eq_z}
+use Rattle.words.specs.declared.Op.{Op}
+use Rattle.words.specs.declared.Op.TheVariants.{Less, Equal, More}
+use Rattle.model.specs.Tables.{Row, Condition, value, clause_holds, condition_holds}
+use Rattle.model.specs.declared.Bounds.{Bounds}
 use Rattle.model.specs.Rows.{some_row}
 use Rattle.zone.specs.Zone.{Zone, can_differ}
 use Rattle.solver.specs.Solver.{bounds_fit, comparison_fits, imposed, imposed_all}
@@ -34,11 +37,11 @@ module _ (bs : List Bounds) (fit : T (all_of bounds_fit bs)) where
     pub apart_sought : Sought bs p (λ r. not (eq_z (value r a) (value r b))) (apart a b z)
     unfolding apart
     apart_sought =
-        let lower : Row → Bool = λ r. holds less (value r a) (value r b) in
-        let higher : Row → Bool = λ r. holds more (value r a) (value r b) in
+        let lower : Row → Bool = λ r. holds Less (value r a) (value r b) in
+        let higher : Row → Bool = λ r. holds More (value r a) (value r b) in
         sought_as bs p (λ r. lower r || higher r) (λ r. not (eq_z (value r a) (value r b)))
-        (λ r w. rw (← (or-false (higher r))) (opposites_hold equal (value r a) (value r b))) (apart a b z)
-        (either_sought bs p lower higher (imposed z (columns_by less a b)) (imposed z (columns_by more a b)) (by_sought less) (by_sought more))
+        (λ r w. rw (← (or-false (higher r))) (opposites_hold Equal (value r a) (value r b))) (apart a b z)
+        (either_sought bs p lower higher (imposed z (columns_by Less a b)) (imposed z (columns_by More a b)) (by_sought Less) (by_sought More))
 
     -- one look tells whether there is such a row
     pub differ_apart : is_some (if_differ a b z) ≡ is_some (apart a b z)

@@ -15,7 +15,8 @@ use Rattle.base.proofs.Options.{none_of}
 use Rattle.base.proofs.Turns.{first_none, first_more, first_found}
 use Rattle.base.specs.Lists.{at}
 use Rattle.base.specs.Options.{is_some, first_of}
-use Rattle.words.specs.Compare.{less, more, op_at}
+use Rattle.words.specs.Compare.{op_at}
+use Rattle.words.specs.declared.Op.TheVariants.{Less, More}
 use Rattle.job.specs.declared.Comparison.{Comparison}
 use Rattle.job.specs.Meaning.{comparison_of}
 use Rattle.zone.specs.Zone.{Zone, kept}
@@ -98,13 +99,13 @@ module _ {n : ℕ} {d cs twin : List ℕ} (u : Separates n d cs twin) (i : ℕ) 
       unfolding apart
       less_apart {r} {f} done some_row = let l = found 0 done some_row in ends_some (n + 1) f (first_apart (rw l))
 
-      pub more_apart : {r : Bool} {f : List ℕ} → imposed (zone_in (n + 1) d) (columns_by less (at cs i) (at twin (at cs i))) ≡ none
+      pub more_apart : {r : Bool} {f : List ℕ} → imposed (zone_in (n + 1) d) (columns_by Less (at cs i) (at twin (at cs i))) ≡ none
           → Imposed 4 r f → r ≡ true → Ends (n + 1) (some_apart (at twin) cs (zone_in (n + 1) d)) true f
       unfolding apart
       more_apart {r} {f} lower done some_row = let l = found 4 done some_row in ends_some (n + 1) f (first_apart (rw (lower, l)))
 
-      pub none_apart : imposed (zone_in (n + 1) d) (columns_by less (at cs i) (at twin (at cs i))) ≡ none
-          → imposed (zone_in (n + 1) d) (columns_by more (at cs i) (at twin (at cs i))) ≡ none
+      pub none_apart : imposed (zone_in (n + 1) d) (columns_by Less (at cs i) (at twin (at cs i))) ≡ none
+          → imposed (zone_in (n + 1) d) (columns_by More (at cs i) (at twin (at cs i))) ≡ none
           → first_of (drop (i + 1) cs) (λ c. apart c (at twin c) (zone_in (n + 1) d)) ≡ some_apart (at twin) cs (zone_in (n + 1) d)
       unfolding apart
       none_apart lower higher = first_more (λ c. apart c (at twin c) z) 0 cs i rest h (rw (lower, higher))

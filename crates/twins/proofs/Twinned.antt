@@ -14,7 +14,8 @@ use Rattle.base.specs.Lists.{any_of, filter, at, range, tabulate}
 use Rattle.base.proofs.Lists.{map_snoc, filter_length}
 use Rattle.base.proofs.Arrays.{take_padded, mapped_more, entries_at, entries_past, entries_more}
 use Rattle.base.proofs.Tests.{by_less}
-use Rattle.model.specs.Tables.{Bounds, Row, value}
+use Rattle.model.specs.Tables.{Row, value}
+use Rattle.model.specs.declared.Bounds.{Bounds}
 use Rattle.job.specs.declared.Column.{Column}
 use Rattle.solver.specs.Lists.{bounds_of as listed}
 use Rattle.job.specs.Meaning.{bounds_of}

@@ -17,7 +17,8 @@ use Rattle.base.proofs.Lists.{any_has, has_any, all_has, has_all, filter_has, pa
 use Rattle.base.proofs.Tests.{same_test, T-is, not_is, by_less}
 use Rattle.words.specs.Compare.{eq_z}
 use Rattle.words.proofs.Order.{eq_z_is}
-use Rattle.model.specs.Tables.{Bounds, Row, value, inside, within}
+use Rattle.model.specs.Tables.{Row, value, inside, within}
+use Rattle.model.specs.declared.Bounds.{Bounds}
 use Rattle.model.specs.Rows.{some_row, two_rows, same_row}
 use Rattle.model.proofs.Rows.{some_has, has_some, two_has, has_two, is_same_row}
 use Rattle.twins.specs.Twins.{is_stored, hidden, rank, twin_of, twin_bounds}

@@ -2,7 +2,8 @@
 use Rattle.std.specs.Prelude.{cond, List, ℕ, suc}
 use Rattle.std.proofs.Math.Option.{Option, none, some}
 use Rattle.base.specs.Options.{or_else, first_of}
-use Rattle.words.specs.Compare.{Op, less, more}
+use Rattle.words.specs.declared.Op.{Op}
+use Rattle.words.specs.declared.Op.TheVariants.{Less, More}
 use Rattle.model.specs.Tables.{column, Comparison}
 use Rattle.zone.specs.Zone.{Zone, can_differ}
 use Rattle.solver.specs.Solver.{imposed}
@@ -13,7 +14,7 @@ columns_by o a b = record { op = o; left = a; right = column b }
 
 -- the rows of a zone in which column a has less than column b, otherwise those in which it has more
 unfoldable pub apart : ℕ → ℕ → Zone → Option Zone
-apart a b z = or_else (imposed z (columns_by less a b)) (imposed z (columns_by more a b))
+apart a b z = or_else (imposed z (columns_by Less a b)) (imposed z (columns_by More a b))
 
 -- the same of the first column of some that can differ from its partner
 unfoldable pub some_apart : (ℕ → ℕ) → List ℕ → Zone → Option Zone

@@ -2,7 +2,7 @@
 use Rattle.std.specs.Prelude.{Bool, cond, List, map, ℕ, ◌+◌, ◌-◌, length, set, pos, eqb}
 use Rattle.base.specs.Lists.{tabulate, at}
 use Rattle.base.specs.Arrays.{padded}
-use Rattle.model.specs.Tables.{Bounds}
+use Rattle.model.specs.declared.Bounds.{Bounds}
 use Rattle.job.specs.declared.Column.{Column}
 use Rattle.job.specs.declared.Comparison.{Comparison}
 use Rattle.job.specs.declared.Clause.{Clause}

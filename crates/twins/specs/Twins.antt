@@ -1,7 +1,8 @@
 -- Two rows that agree in the stored columns, as one: the first row, and behind it the second row's values in the columns that aren't stored.
 use Rattle.std.specs.Prelude.{Bool, not, cond, List, ◌++◌, map, ℕ, ◌+◌, length, get_or, pos, eqb}
 use Rattle.base.specs.Lists.{range, any_of, filter}
-use Rattle.model.specs.Tables.{Bounds, Against, column, number, Comparison, Condition}
+use Rattle.model.specs.Tables.{Against, column, number, Comparison, Condition}
+use Rattle.model.specs.declared.Bounds.{Bounds}
 
 module _ (n : ℕ) (stored : List ℕ) where
   abbrev pub is_stored : ℕ → Bool

@@ -16,7 +16,7 @@ use Rattle.base.proofs.Arrays.{padded_length}
 use Rattle.base.proofs.Options.{first_cong}
 use Rattle.base.proofs.Places.{element}
 use Rattle.model.specs.Tables as model
-use Rattle.model.specs.Tables.{Bounds}
+use Rattle.model.specs.declared.Bounds.{Bounds}
 use Rattle.model.specs.Verdict.{columns, uses_other, tables_differ}
 use Rattle.job.specs.declared.Columns.{Columns}
 use Rattle.job.specs.declared.Condition.{Condition}

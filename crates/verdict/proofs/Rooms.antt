@@ -18,7 +18,8 @@ use Rattle.words.specs.Bias.{bias, biased}
 use Rattle.words.specs.Word.{sign_bit}
 use Rattle.words.proofs.Order.{le_z_trans}
 use Rattle.words.proofs.Biases.{biased_low, biased_high}
-use Rattle.model.specs.Tables.{Bounds, Row, value, inside, within}
+use Rattle.model.specs.Tables.{Row, value, inside, within}
+use Rattle.model.specs.declared.Bounds.{Bounds}
 use Rattle.model.specs.WellFormed.{in_range}
 use Rattle.zone.specs.Zone.{Zone, least_of}
 use Rattle.zone.specs.Array.{zone_in, laid}

@@ -2,7 +2,8 @@
 use Rattle.std.specs.Prelude.{Bool, false, cond, ◌&&◌, List, ℕ, length}
 use Rattle.std.proofs.Math.Option.{Option, none}
 use Rattle.base.specs.Options.{is_some, or_else}
-use Rattle.model.specs.Tables.{Bounds, Condition, Job}
+use Rattle.model.specs.Tables.{Condition, Job}
+use Rattle.model.specs.declared.Bounds.{Bounds}
 use Rattle.model.specs.Verdict.{columns, tables_differ, first_kind}
 use Rattle.zone.specs.Zone.{Zone}
 use Rattle.solver.specs.Solver.{box_of}

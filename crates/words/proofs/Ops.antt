@@ -3,7 +3,9 @@ use mathlib.Core.Path.{◌≡◌, refl}
 use mathlib.Core.Option.{some}
 use Prim.Native.Nat.{ℕ, zero, suc, ◌≤◌}
 use native.Mathlib.Omega.{arith}
-use Rattle.words.specs.Compare.{Op, less, at_most, equal, at_least, more, op_of, op_at, number_of_op}
+use Rattle.words.specs.Compare.{op_of, op_at, number_of_op}
+use Rattle.words.specs.declared.Op.{Op}
+use Rattle.words.specs.declared.Op.TheVariants.{Less, AtMost, Equal, AtLeast, More}
 
 pub op_at_lem : (n : ℕ) → n ≤ 4 → op_of n ≡ some (op_at n)
 op_at_lem zero h = refl
@@ -14,11 +16,11 @@ op_at_lem (suc (suc (suc (suc zero)))) h = refl
 op_at_lem (suc (suc (suc (suc (suc n))))) h = absurd (omega arith)
 
 pub op_number : (o : Op) → op_at (number_of_op o) ≡ o
-op_number less = refl
-op_number at_most = refl
-op_number equal = refl
-op_number at_least = refl
-op_number more = refl
+op_number Less = refl
+op_number AtMost = refl
+op_number Equal = refl
+op_number AtLeast = refl
+op_number More = refl
 
 -- and back
 pub op_back : (n : ℕ) → n ≤ 4 → number_of_op (op_at n) ≡ n

@@ -1,4 +1,6 @@
+-- The empty job is zeros throughout. Assumes nothing.
+use Rattle.job.proofs.Defaults.{job_is}
 use Rattle.job.proofs.Job.empty.Goals as goal
 
 pub returns : goal.returns
-returns c = rw c.no_expression-expression.ensures
+returns c = job_is c.default.result c.default.ensures
