@@ -1,3 +1,4 @@
+pub mod Faults
 pub mod Samples
 pub mod Growing
 pub mod Given

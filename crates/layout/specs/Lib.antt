@@ -1,4 +1,5 @@
 pub mod Commands
+pub mod Faults
 pub mod Reading
 pub mod Writing
 pub mod Sound
