@@ -2,7 +2,7 @@
 use mathlib.Core.Path.{◌≡◌, refl}
 use mathlib.Core.Bool.{Bool, true, false, cond}
 use mathlib.Core.List.{List, [], ◌∷◌, ◌++◌, map}
-use mathlib.Core.Option.{Option, none, some}
+use Rattle.std.specs.Prelude.{Option, None, Some}
 use Prim.Native.Nat.{ℕ, zero, suc, ◌+◌, ◌*◌, ◌<◌, ◌≤◌}
 use native.Mathlib.Nat.{suc-mul}
 use native.Mathlib.Omega.{arith}
@@ -192,8 +192,8 @@ few_operands ColumnCompared = omega arith
 few_operands End = omega arith
 
 listed_same : (at : ℕ) (o : Option Command) (f g : Command → Step) → ((c : Command) → f c ≡ g c) → if_listed at o f ≡ if_listed at o g
-listed_same at none f g h = refl
-listed_same at (some c) f g h = h c
+listed_same at None f g h = refl
+listed_same at (Some c) f g h = h c
 
 module _ (n : ℕ) (s : List ℕ) (enough : 588 ≤ n) (long : n ≤ length s) where
   entry_same : (c : Command) (at : ℕ) → at ≤ 579 → entry_at c (take n s) at ≡ entry_at c s at

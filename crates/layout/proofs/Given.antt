@@ -2,7 +2,7 @@
 use mathlib.Core.Path.{◌≡◌, refl}
 use mathlib.Core.Bool.{Bool, true, false, cond}
 use mathlib.Core.List.{List}
-use mathlib.Core.Option.{Option, none, some, none-ne-some}
+use Rattle.std.specs.Prelude.{Option, None, Some}
 use Prim.Native.Nat.{ℕ, ◌+◌, ◌<◌, ◌≤◌}
 use native.Mathlib.Omega.{arith}
 use lib.ListN.{length, get_or}
@@ -27,20 +27,23 @@ byte_of ColumnCompared = 0x42
 byte_of End = 0xFF
 
 -- one row of the list of commands, and the rows below it
-row : (b : ℕ) (c d : Command) (rest : Option Command) → (rest ≡ some c → b ≡ byte_of c) → cond (eqb b (byte_of d)) (some d) rest ≡ some c
+row : (b : ℕ) (c d : Command) (rest : Option Command) → (rest ≡ Some c → b ≡ byte_of c) → cond (eqb b (byte_of d)) (Some d) rest ≡ Some c
     → b ≡ byte_of c
 row b c d rest below e = go (eqb b (byte_of d)) refl e
   where
-    go : (t : Bool) → eqb b (byte_of d) ≡ t → cond t (some d) rest ≡ some c → b ≡ byte_of c
+    go : (t : Bool) → eqb b (byte_of d) ≡ t → cond t (Some d) rest ≡ Some c → b ≡ byte_of c
     go true h f = let g : d ≡ c = cc in rw (← g) (eqb-true b (byte_of d) h)
     go false h f = below f
 
-pub byte_is : (b : ℕ) (c : Command) → command_of b ≡ some c → b ≡ byte_of c
+none_some : {c : Command} {b n : ℕ} → ◌≡◌ {A = Option Command} None (Some c) → b ≡ n
+none_some e = cc
+
+pub byte_is : (b : ℕ) (c : Command) → command_of b ≡ Some c → b ≡ byte_of c
 unfolding command_of
 byte_is b c =
     row b c NextTable _ (row b c NextColumn _ (row b c ExtractBegins _ (row b c QueryBegins _ (row b c TableUsed _ (row b c OutputColumn _
     (row b c NextClause _ (row b c NumberCompared _ (row b c ColumnCompared _
-    (row b c End _ (λ e. absurd (none-ne-some c e)))))))))))
+    (row b c End _ (λ e. none_some e))))))))))
 
 -- ---- what the checks leave
 pub record Given (s : List ℕ) (at : ℕ) (st : State) (at' : ℕ) (st' : State) (c : Command) : Type 0 where
@@ -61,9 +64,9 @@ passed n at true rest e = (tt, e)
 passed n at false rest e = let w : ◌≡◌ {A = ℕ} 0 1 = cc in absurd (omega arith)
 
 listed : (at : ℕ) (o : Option Command) (f : Command → Step) {at' : ℕ} {st' : State} → if_listed at o f ≡ next at' st'
-    → (c : Command) × (o ≡ some c) × (f c ≡ next at' st')
-listed at none f e = let w : ◌≡◌ {A = ℕ} 0 1 = cc in absurd (omega arith)
-listed at (some c) f e = (c, refl, e)
+    → (c : Command) × (o ≡ Some c) × (f c ≡ next at' st')
+listed at None f e = let w : ◌≡◌ {A = ℕ} 0 1 = cc in absurd (omega arith)
+listed at (Some c) f e = (c, refl, e)
 
 pub step_given : (s : List ℕ) (at at' : ℕ) (st st' : State) → step_of s at st ≡ next at' st' → (c : Command) × Given s at st at' st' c
 unfolding step_of taken

@@ -2,7 +2,7 @@
 use mathlib.Core.Path.{◌≡◌, refl, sym, ap, ◌∙◌}
 use mathlib.Core.Bool.{false}
 use mathlib.Core.List.{List, [], ◌∷◌, ◌++◌, append_assoc}
-use mathlib.Core.Option.{some}
+use Rattle.std.specs.Prelude.{Some}
 use Prim.Native.Nat.{ℕ, zero, suc, ◌+◌, ◌≤◌, ◌<◌}
 use native.Mathlib.Omega.{arith}
 use lib.ListN.{length, get_or, take, drop, length-append}
@@ -40,14 +40,14 @@ bytes_append (b ∷ s) t h k (suc i) = bytes_append s t (λ n. h (suc n)) k i
 pub record Spelled (c : Command) (b : ℕ) (e : Entry) : Type 0 where
   pub rest : List ℕ
   pub spelt : entry_bytes e ≡ b ∷ rest
-  pub listed : command_of b ≡ some c
+  pub listed : command_of b ≡ Some c
   pub size : length rest ≡ operands c
   pub byte : b < 256
   pub bytes : Bytes rest
   pub read : (pre post : List ℕ) → entry_at c (pre ++ (entry_bytes e ++ post)) (length pre) ≡ e
 
 -- a command without operands
-alone : {c : Command} {b : ℕ} (e : Entry) → entry_bytes e ≡ b ∷ [] → command_of b ≡ some c → 0 ≡ operands c → b < 256
+alone : {c : Command} {b : ℕ} (e : Entry) → entry_bytes e ≡ b ∷ [] → command_of b ≡ Some c → 0 ≡ operands c → b < 256
     → ((s : List ℕ) (at : ℕ) → entry_at c s at ≡ e) → Spelled c b e
 alone e w l z h r = record { rest = []; spelt = w; listed = l; size = z; byte = h; bytes = bytes_none; read = λ pre post. r _ _ }
 
@@ -72,7 +72,7 @@ unfolding command_of
 spelled_end = alone (mark 0xFF) refl refl refl (omega arith) (λ s at. refl)
 
 -- a command with a number of one byte
-numbered : {c : Command} {b : ℕ} (f : ℕ → Entry) (n : ℕ) → entry_bytes (f n) ≡ b ∷ n ∷ [] → command_of b ≡ some c → 1 ≡ operands c → b < 256
+numbered : {c : Command} {b : ℕ} (f : ℕ → Entry) (n : ℕ) → entry_bytes (f n) ≡ b ∷ n ∷ [] → command_of b ≡ Some c → 1 ≡ operands c → b < 256
     → ((s : List ℕ) (at : ℕ) → entry_at c s at ≡ f (get_or s (at + 1) 0)) → n < 256 → Spelled c b (f n)
 numbered {b = b} f n w l z h r k = record {
   rest = n ∷ [];
@@ -146,7 +146,7 @@ pub record Legal (st : State) (c : Command) (e : Entry) : Type 0 where
   pub fresh : T (is_new (current st) e)
 
 step_taken : (s : List ℕ) (at : ℕ) (st : State) (b : ℕ) (c : Command) (e : Entry) → at + 1 + operands c ≤ length s
-    → get_or s at 0 ≡ b → command_of b ≡ some c → entry_at c s at ≡ e → Legal st c e
+    → get_or s at 0 ≡ b → command_of b ≡ Some c → entry_at c s at ≡ e → Legal st c e
     → step_of s at st ≡ next (at + 1 + operands c) (after b e st)
 unfolding step_of taken
 step_taken s at st b c e fits g l r h =

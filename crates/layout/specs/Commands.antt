@@ -1,6 +1,5 @@
 -- Document 01, "Job bytes": the start, the commands with their operands, and their order.
-use Rattle.std.specs.Prelude.{Bool, cond, List, [], ◌∷◌, ℕ, ◌+◌, get_or, eqb, ℤ}
-use Rattle.std.proofs.Math.Option.{Option, none, some}
+use Rattle.std.specs.Prelude.{Bool, cond, List, [], ◌∷◌, ℕ, ◌+◌, get_or, eqb, ℤ, Option, None, Some}
 use Rattle.words.specs.Word.{value_at}
 use Rattle.model.specs.Tables.{Against, column, number}
 use Rattle.layout.specs.declared.Command.{Command}
@@ -14,17 +13,17 @@ start_bytes = 0x50 ∷ 0x53 ∷ 0x4A ∷ 0x31 ∷ []
 -- the command that a byte stands for, or none
 unfoldable pub command_of : ℕ → Option Command
 command_of b =
-    cond (eqb b 0x10) (some NextTable)
-    (cond (eqb b 0x11) (some NextColumn)
-    (cond (eqb b 0x20) (some ExtractBegins)
-    (cond (eqb b 0x21) (some QueryBegins)
-    (cond (eqb b 0x30) (some TableUsed)
-    (cond (eqb b 0x31) (some OutputColumn)
-    (cond (eqb b 0x40) (some NextClause)
-    (cond (eqb b 0x41) (some NumberCompared)
-    (cond (eqb b 0x42) (some ColumnCompared)
-    (cond (eqb b 0xFF) (some End)
-    none)))))))))
+    cond (eqb b 0x10) (Some NextTable)
+    (cond (eqb b 0x11) (Some NextColumn)
+    (cond (eqb b 0x20) (Some ExtractBegins)
+    (cond (eqb b 0x21) (Some QueryBegins)
+    (cond (eqb b 0x30) (Some TableUsed)
+    (cond (eqb b 0x31) (Some OutputColumn)
+    (cond (eqb b 0x40) (Some NextClause)
+    (cond (eqb b 0x41) (Some NumberCompared)
+    (cond (eqb b 0x42) (Some ColumnCompared)
+    (cond (eqb b 0xFF) (Some End)
+    None)))))))))
 
 -- how many operand bytes stand behind it
 abbrev pub operands : Command → ℕ

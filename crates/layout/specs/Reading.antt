@@ -1,6 +1,5 @@
 -- Reading a job: each command goes through the checks 2 to 10 before the next one does (document 01, "What is refused").
-use Rattle.std.specs.Prelude.{Bool, true, false, not, cond, ◌&&◌, ◌||◌, List, [], ◌∷◌, ◌++◌, ℕ, zero, suc, ◌+◌, length, get_or, take, eqb, ltb, leb}
-use Rattle.std.proofs.Math.Option.{Option, none, some}
+use Rattle.std.specs.Prelude.{Bool, true, false, not, cond, ◌&&◌, ◌||◌, List, [], ◌∷◌, ◌++◌, ℕ, zero, suc, ◌+◌, length, get_or, take, eqb, ltb, leb, Option, None, Some}
 use Rattle.std.specs.Int.Signed.{le_z}
 use Rattle.base.specs.Lists.{any_of, pairwise, in_last, last_of}
 use Rattle.model.specs.Tables.{Table, Condition, Expression, Job, columns_of}
@@ -156,8 +155,8 @@ taken s at st b c =
 
 -- 3: the byte is a command's
 abbrev pub if_listed : ℕ → Option Command → (Command → Step) → Step
-if_listed at none f = stop 3 at
-if_listed at (some c) f = f c
+if_listed at None f = stop 3 at
+if_listed at (Some c) f = f c
 
 -- 2: there is a byte
 unfoldable pub step_of : List ℕ → ℕ → State → Step
