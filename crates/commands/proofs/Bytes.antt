@@ -8,11 +8,10 @@ use native.Mathlib.Omega.{arith}
 use lib.ListN.{length}
 use lib.Dec.{eqb, ltb, leb}
 use borrow.Author.Tests.{ne_eqb, le-leb, lt-leb, ltb-true, ltb-false}
+use Rattle.std.specs.Prelude.{None}
 use Rattle.layout.specs.declared.Command.{Command}
 use Rattle.layout.specs.Commands.{command_of, operands}
 use Rattle.layout.specs.Reading.{starts}
-use Rattle.commands.specs.declared.Listed.TheVariants.{Unlisted}
-use Rattle.commands.specs.Uses.{listed_of}
 
 -- ---- the start
 and-false : (a : Bool) → (a && false) ≡ false
@@ -27,14 +26,14 @@ starts_short (a ∷ b ∷ c ∷ []) h = simp and-false
 starts_short (a ∷ b ∷ c ∷ d ∷ s) h = absurd (omega arith)
 
 -- ---- the commands' bytes
-pub listed_at : (b n : ℕ) → b ≡ n → listed_of (command_of n) ≡ listed_of (command_of b)
+pub listed_at : (b n : ℕ) → b ≡ n → command_of n ≡ command_of b
 listed_at b n e = rw e
 
 abbrev no_command : ℕ → Type 0
 no_command b =
     (b ≢ 0x10) × (b ≢ 0x11) × (b ≢ 0x20) × (b ≢ 0x21) × (b ≢ 0x30) × (b ≢ 0x31) × (b ≢ 0x40) × (b ≢ 0x41) × (b ≢ 0x42)
 
-pub unlisted : (b : ℕ) → no_command b → b ≢ 0xFF → Unlisted ≡ listed_of (command_of b)
+pub unlisted : (b : ℕ) → no_command b → b ≢ 0xFF → None ≡ command_of b
 unfolding command_of
 unlisted b (e, f, g, h, i, j, k, l, m) n =
     rw (

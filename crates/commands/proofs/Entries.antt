@@ -33,8 +33,9 @@ use Rattle.commands.specs.declared.Cursor.{Cursor}
 use Rattle.commands.specs.declared.Draft.{Draft}
 use Rattle.commands.specs.declared.Addition.TheVariants.{Table as TableAdded, Column as ColumnAdded, Nothing}
 use Rattle.commands.specs.declared.Addition.TheVariants.{Used, Output, Clause as ClauseAdded, Compared}
-use Rattle.commands.specs.declared.Judged.TheVariants.{Added, Fault}
-use Rattle.commands.specs.Uses.{drafted, state_in, tables_in, scoped_in, above_in, placed, whole, bounds_fit, added_to, Judges, Held}
+use Rattle.std.specs.Prelude.{Ok, Err}
+use Rattle.layout.specs.declared.Fault.TheVariants.{OutOfRange, UnknownOp, Undeclared, NotNew}
+use Rattle.commands.specs.Uses.{drafted, state_in, tables_in, scoped_in, above_in, placed, whole, bounds_fit, Judges, Held}
 use Rattle.commands.specs.Uses.{table_more, column_more, used_more, output_more, clause_more, comparison_more, conditioned}
 use Rattle.commands.proofs.Laid.{table_laid, column_laid, used_laid, output_laid, clause_laid, comparison_laid}
 use Rattle.commands.proofs.Laid.{condition_laid, placed_laid, placed_again}
@@ -77,33 +78,33 @@ module _ {cur : Cursor} {job : Job} {d : Draft} (h : Held cur job d) where
   pub width_small : job.width ≤ 16
   width_small = omega (arith, width_held h, h.sound.few_columns)
 
-  pub add_table_lem : ltb (length ts) 4 ≡ true → Judges cur job d add_table (Added TableAdded)
+  pub add_table_lem : ltb (length ts) 4 ≡ true → Judges cur job d add_table (Ok TableAdded)
   add_table_lem f = record {
-    told = ap added_to (ap table_more h.laid ∙ table_laid so_far);
+    told = ap Ok (ap table_more h.laid ∙ table_laid so_far);
     fits = omega (arith, tables_held h, ltb-true (length ts) 4 f);
   }
 
-  pub add_mark : (b : ℕ) → Judges cur job d (mark b) (Added Nothing)
-  add_mark b = record { told = ap added_to h.laid; fits = tt }
+  pub add_mark : (b : ℕ) → Judges cur job d (mark b) (Ok Nothing)
+  add_mark b = record { told = ap Ok h.laid; fits = tt }
 
-  pub not_bounds : (lo hi : ℤ) → bounds_fit lo hi ≡ false → Judges cur job d (add_column lo hi) (Fault 7)
+  pub not_bounds : (lo hi : ℤ) → bounds_fit lo hi ≡ false → Judges cur job d (add_column lo hi) (Err OutOfRange)
   not_bounds lo hi f = record { told = rw f; fits = tt }
 
   pub add_column_lem : (lo hi : ℤ) (l u : ℤ) → l ≡ lo → u ≡ hi → bounds_fit lo hi ≡ true → 0 < job.tables
       → ltb (length (columns_of ts)) 16 ≡ true
-      → Judges cur job d (add_column lo hi) (Added (ColumnAdded (record { table = job.tables - 1; lo = l; hi = u })))
+      → Judges cur job d (add_column lo hi) (Ok (ColumnAdded (record { table = job.tables - 1; lo = l; hi = u })))
   add_column_lem lo hi l u el eu f some room =
       let b : Bounds = record { lo = lo; hi = hi } in
       let last : suc (job.tables - 1) ≡ length ts = omega (arith, tables_held h) in
       let few : length (columns_of ts) < 16 = ltb-true (length (columns_of ts)) 16 room in
       record {
         told = rw (f, el, eu)
-            (ap added_to (ap (λ (x : Job). column_more x (column_record (job.tables - 1) b)) h.laid
+            (ap Ok (ap (λ (x : Job). column_more x (column_record (job.tables - 1) b)) h.laid
             ∙ column_laid so_far b (job.tables - 1) last few));
         fits = omega (arith, width_held h);
       }
 
-  pub no_table : (t : ℕ) → job.tables ≤ t → Judges cur job d (use_table t) (Fault 9)
+  pub no_table : (t : ℕ) → job.tables ≤ t → Judges cur job d (use_table t) (Err Undeclared)
   no_table t k = record { told = rw (le-ltb t (length ts) (omega (arith, tables_held h))); fits = tt }
 
   -- ---- the current expression
@@ -147,37 +148,37 @@ module _ {cur : Cursor} {job : Job} {d : Draft} (h : Held cur job d) where
   scoped_below c f = ltb-true c job.width (T-is (ltb c job.width) (and_yes (ltb c job.width) _ (is_T f)).0)
 
   -- ---- used tables
-  pub not_above : (t : ℕ) → t < job.tables → above_in (drafted d) t ≡ false → Judges cur job d (use_table t) (Fault 10)
+  pub not_above : (t : ℕ) → t < job.tables → above_in (drafted d) t ≡ false → Judges cur job d (use_table t) (Err NotNew)
   not_above t k a = record { told = rw (lt-ltb t (length ts) (omega (arith, tables_held h)), sym (above_held t) ∙ a); fits = tt }
 
-  pub use_table_lem : (t : ℕ) → t < job.tables → above_in (drafted d) t ≡ true → Judges cur job d (use_table t) (Added (Used t))
+  pub use_table_lem : (t : ℕ) → t < job.tables → above_in (drafted d) t ≡ true → Judges cur job d (use_table t) (Ok (Used t))
   use_table_lem t k a =
       let below : t < length ts = omega (arith, tables_held h) in
       let above : above_last m.used t ≡ true = sym (above_held t) ∙ a in
       let room : length m.used < 4 = omega (arith, h.sound.few_tables, used_room h.sound.begun t below (is_T above)) in
       record {
         told = rw (lt-ltb t (length ts) below, above)
-            (ap added_to (placed_held _ _ (ap (λ (z : Expression). used_more z t) laid ∙ used_laid m t room)));
+            (ap Ok (placed_held _ _ (ap (λ (z : Expression). used_more z t) laid ∙ used_laid m t room)));
         fits = omega (arith, tables_are);
       }
 
   -- ---- outputs
-  pub out_of_scope : (c : ℕ) → scoped_in job (drafted d) c ≡ false → Judges cur job d (add_output c) (Fault 9)
+  pub out_of_scope : (c : ℕ) → scoped_in job (drafted d) c ≡ false → Judges cur job d (add_output c) (Err Undeclared)
   out_of_scope c f = record { told = rw (sym (scoped_held c) ∙ f); fits = tt }
 
   pub repeated : (c : ℕ) → scoped_in job (drafted d) c ≡ true → any_of (eqb c) (take d.width d.outputs) ≡ true
-      → Judges cur job d (add_output c) (Fault 10)
+      → Judges cur job d (add_output c) (Err NotNew)
   repeated c f a = record { told = rw (sym (scoped_held c) ∙ f, sym (outputs_held c) ∙ a); fits = tt }
 
   pub add_output_lem : (c : ℕ) → scoped_in job (drafted d) c ≡ true → any_of (eqb c) (take d.width d.outputs) ≡ false
-      → Judges cur job d (add_output c) (Added (Output c))
+      → Judges cur job d (add_output c) (Ok (Output c))
   add_output_lem c f a =
       let below : c < length (columns_of ts) = omega (arith, width_held h, scoped_below c f) in
       let fresh : any_of (eqb c) m.outputs ≡ false = sym (outputs_held c) ∙ a in
       let room : length m.outputs < 16 = omega (arith, h.sound.few_columns, outputs_room h.sound.begun c below fresh) in
       record {
         told = rw (sym (scoped_held c) ∙ f, fresh)
-            (ap added_to (placed_held _ _ (ap (λ (z : Expression). output_more z c) laid ∙ output_laid m c room)));
+            (ap Ok (placed_held _ _ (ap (λ (z : Expression). output_more z c) laid ∙ output_laid m c room)));
         fits = omega (arith, width_is);
       }
 
@@ -186,28 +187,28 @@ module _ {cur : Cursor} {job : Job} {d : Draft} (h : Held cur job d) where
       → placed cur.in_query job (conditioned (drafted d) x) ≡ record_of (with_current cur.in_query so_far (with_condition m y))
   conditioned_held x y q = placed_held _ _ (ap (λ (z : Expression). conditioned z x) laid ∙ condition_laid m x y q)
 
-  pub add_clause_lem : ltb (length m.condition) 4 ≡ true → Judges cur job d add_clause (Added ClauseAdded)
+  pub add_clause_lem : ltb (length m.condition) 4 ≡ true → Judges cur job d add_clause (Ok ClauseAdded)
   add_clause_lem f =
       let few = ltb-true (length m.condition) 4 f in
       record {
-        told = ap added_to (conditioned_held _ _ (ap clause_more (condition_held h) ∙ clause_laid m.condition few));
+        told = ap Ok (conditioned_held _ _ (ap clause_more (condition_held h) ∙ clause_laid m.condition few));
         fits = omega (arith, size_held h, few);
       }
 
   -- ---- comparisons
-  pub too_far : (o l : ℕ) (v : ℤ) → in_range v ≡ false → Judges cur job d (add_comparison o l (number v)) (Fault 7)
+  pub too_far : (o l : ℕ) (v : ℤ) → in_range v ≡ false → Judges cur job d (add_comparison o l (number v)) (Err OutOfRange)
   too_far o l v i = record { told = rw i; fits = tt }
 
   -- where the right side is in range
   module _ (o l : ℕ) (r : Against) (i : against_limited r ≡ true) where
-    pub no_op : 4 < o → Judges cur job d (add_comparison o l r) (Fault 8)
+    pub no_op : 4 < o → Judges cur job d (add_comparison o l r) (Err UnknownOp)
     no_op k = record { told = rw (i, lt-leb o 4 k); fits = tt }
 
-    pub left_out : o ≤ 4 → scoped_in job (drafted d) l ≡ false → Judges cur job d (add_comparison o l r) (Fault 9)
+    pub left_out : o ≤ 4 → scoped_in job (drafted d) l ≡ false → Judges cur job d (add_comparison o l r) (Err Undeclared)
     left_out k f = record { told = rw (i, le-leb o 4 k, sym (scoped_held l) ∙ f); fits = tt }
 
   pub right_out : (o l c : ℕ) → o ≤ 4 → scoped_in job (drafted d) l ≡ true → scoped_in job (drafted d) c ≡ false
-      → Judges cur job d (add_comparison o l (column c)) (Fault 9)
+      → Judges cur job d (add_comparison o l (column c)) (Err Undeclared)
   right_out o l c k f g = record { told = rw (le-leb o 4 k, sym (scoped_held l) ∙ f, sym (scoped_held c) ∙ g); fits = tt }
 
   -- in the last clause, which is there and has room
@@ -220,19 +221,19 @@ module _ {cur : Cursor} {job : Job} {d : Draft} (h : Held cur job d) where
 
     compared : (o l : ℕ) (r : Against) (k : Comparison) → against_limited r ≡ true → o ≤ 4 → scoped_in job (drafted d) l ≡ true
         → against_in_scope ts m r ≡ true → k ≡ comparison_record (record { op = op_at o; left = l; right = r })
-        → Judges cur job d (add_comparison o l r) (Added (Compared k))
+        → Judges cur job d (add_comparison o l r) (Ok (Compared k))
     compared o l r k i f g s q =
         let c : model.Comparison = record { op = op_at o; left = l; right = r } in
         let few : d.comparisons < 6 = omega (arith, comparisons_held h, ltb-true (length (last_of m.condition)) 6 room) in
         let held =
         ap (λ (x : Condition). comparison_more x (comparison_record c)) (condition_held h)
         ∙ comparison_laid m.condition _ last_one c (ltb-true _ 6 room) in
-        record { told = rw (q, i, le-leb o 4 f, sym (scoped_held l) ∙ g, s) (ap added_to (conditioned_held _ _ held)); fits = few }
+        record { told = rw (q, i, le-leb o 4 f, sym (scoped_held l) ∙ g, s) (ap Ok (conditioned_held _ _ held)); fits = few }
 
     pub add_number : (o l : ℕ) (v w : ℤ) → w ≡ v → in_range v ≡ true → o ≤ 4 → scoped_in job (drafted d) l ≡ true
-        → Judges cur job d (add_comparison o l (number v)) (Added (Compared (record { op = o; left = l; right = 0; number = w })))
+        → Judges cur job d (add_comparison o l (number v)) (Ok (Compared (record { op = o; left = l; right = 0; number = w })))
     add_number o l v w q i f g = compared o l (number v) _ i f g refl (rw (q, op_back o f))
 
     pub add_columns : (o l c : ℕ) → o ≤ 4 → scoped_in job (drafted d) l ≡ true → scoped_in job (drafted d) c ≡ true
-        → Judges cur job d (add_comparison o l (column c)) (Added (Compared (record { op = o; left = l; right = c + 1; number = pos 0 })))
+        → Judges cur job d (add_comparison o l (column c)) (Ok (Compared (record { op = o; left = l; right = c + 1; number = pos 0 })))
     add_columns o l c f g h = compared o l (column c) _ refl f g (sym (scoped_held c) ∙ h) (rw (op_back o f, add-one c))

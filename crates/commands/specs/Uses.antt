@@ -1,6 +1,5 @@
 -- What the functions on commands answer and what they may rely on: entries added to a record, and the checks of a command's operands.
-use Rattle.std.specs.Prelude.{◌≡◌, Bool, true, cond, ◌&&◌, ◌||◌, List, [], map, ℕ, ◌+◌, ◌-◌, ◌<◌, get_or, set, take, replicate, ℤ, T, eqb, ltb}
-use Rattle.std.proofs.Math.Option.{Option, none, some}
+use Rattle.std.specs.Prelude.{◌≡◌, Bool, true, cond, ◌&&◌, ◌||◌, List, [], map, ℕ, ◌+◌, ◌-◌, ◌<◌, get_or, set, take, replicate, ℤ, T, eqb, ltb, Result, Ok, Err}
 use Rattle.std.specs.Int.Signed.{le_z}
 use Rattle.base.specs.Lists.{any_of}
 use Rattle.layout.specs.Sound.{Sound}
@@ -14,21 +13,15 @@ use Rattle.job.specs.declared.Job.{Job}
 use Rattle.job.specs.Record.{no_column, no_comparison, no_clause, no_expression}
 use Rattle.job.specs.Meaning.{meaning_of, record_of}
 use Rattle.layout.specs.declared.Command.{Command}
+use Rattle.layout.specs.declared.Fault.{Fault}
 use Rattle.layout.specs.Commands.{Entry}
+use Rattle.layout.specs.Faults.{fault_of}
 use Rattle.layout.specs.Reading.{State, current, follows, has_room, in_ranges, op_known, declared, is_new, added}
 use Rattle.commands.specs.declared.Cursor.{Cursor}
 use Rattle.commands.specs.declared.Draft.{Draft}
 use Rattle.commands.specs.declared.Addition.{Addition}
 use Rattle.commands.specs.declared.Addition.TheVariants.{Table as TableAdded, Column as ColumnAdded, Nothing}
 use Rattle.commands.specs.declared.Addition.TheVariants.{Used, Output, Clause as ClauseAdded, Compared}
-use Rattle.commands.specs.declared.Listed.{Listed}
-use Rattle.commands.specs.declared.Listed.TheVariants.{As, Unlisted}
-use Rattle.commands.specs.declared.Judged.{Judged}
-use Rattle.commands.specs.declared.Judged.TheVariants.{Added, Fault}
-
-abbrev pub listed_of : Option Command → Listed
-listed_of none = Unlisted
-listed_of (some c) = As c
 
 -- ---- The record's parts
 
@@ -163,35 +156,30 @@ Fits r d (Compared k) = d.comparisons < 6
 abbrev pub bounds_fit : ℤ → ℤ → Bool
 bounds_fit lo hi = in_range lo && in_range hi && le_z lo hi
 
--- what they say in terms of the record: the record with the entry, or the number of the refusal
-pub data Entered : Type 0 where
-  added_to : Job → Entered
-  fault_of : ℕ → Entered
-
 -- refusal n, unless the check is passed
-abbrev pub judge : ℕ → Bool → Entered → Entered
-judge n passed rest = cond passed rest (fault_of n)
+abbrev pub judge : ℕ → Bool → Result Job Fault → Result Job Fault
+judge n passed rest = cond passed rest (Err (fault_of n))
 
--- what is said of an entry: the record with it, or the number of the first check that it doesn't pass
-abbrev pub entered_of : State → Entry → Entered
+-- what is said of an entry in terms of the record: the record with it, or the fault of the first check that it doesn't pass
+abbrev pub entered_of : State → Entry → Result Job Fault
 entered_of st x =
     judge 7 (in_ranges x)
     (judge 8 (op_known x)
     (judge 9 (declared st.job.tables (current st) x)
     (judge 10 (is_new (current st) x)
-    (added_to (record_of (added st.in_query st.job (current st) x))))))
+    (Ok (record_of (added st.in_query st.job (current st) x))))))
 
 -- what was judged, in terms of the record
-abbrev pub entered_by : Cursor → Job → Draft → Judged → Entered
-entered_by cur r d (Added x) = added_to (grown cur r d x)
-entered_by cur r d (Fault n) = fault_of n
+abbrev pub entered_by : Cursor → Job → Draft → Result Addition Fault → Result Job Fault
+entered_by cur r d (Ok x) = Ok (grown cur r d x)
+entered_by cur r d (Err f) = Err f
 
-abbrev pub FitsJudged : Job → Draft → Judged → Type 0
-FitsJudged r d (Added x) = Fits r d x
-FitsJudged r d (Fault n) = T true
+abbrev pub FitsJudged : Job → Draft → Result Addition Fault → Type 0
+FitsJudged r d (Ok x) = Fits r d x
+FitsJudged r d (Err f) = T true
 
 -- an entry is judged rightly
-pub record Judges (cur : Cursor) (r : Job) (d : Draft) (x : Entry) (j : Judged) : Type 0 where
+pub record Judges (cur : Cursor) (r : Job) (d : Draft) (x : Entry) (j : Result Addition Fault) : Type 0 where
   pub told : entered_by cur r d j ≡ entered_of (state_in cur r d) x
   pub fits : FitsJudged r d j
 

@@ -9,11 +9,11 @@ ghost use Rattle.job.specs.Record.{no_comparison};
 ghost use Rattle.layout.specs.declared.Command.TheVariants.{NextColumn, TableUsed, OutputColumn, NumberCompared, ColumnCompared};
 ghost use Rattle.layout.specs.Commands.{command_of, operands, in_condition, ending, before, entry_at};
 ghost use Rattle.layout.specs.Reading.{starts, has_room};
-ghost use Rattle.commands.specs.Uses.{listed_of, no_draft, last_in, drafted, state_in, scoped_in, above_in, tables_in, bounds_fit};
+ghost use Rattle.commands.specs.Uses.{no_draft, last_in, drafted, state_in, scoped_in, above_in, tables_in, bounds_fit};
 ghost use Rattle.commands.specs.Uses.{Judges, Held, Ready};
 
 use job::{Clause, Column, Comparison, Condition, Expression, Job};
-use layout::Command;
+use layout::{Command, Fault};
 
 // Where the next command is due, the byte of the last command (0 at the start), and whether the query has begun.
 #[derive(Clone, Copy)]
@@ -126,20 +126,6 @@ pub enum Addition {
     Compared(Comparison),
 }
 
-// What a byte stands for.
-#[derive(Clone, Copy)]
-pub enum Listed {
-    As(Command),
-    Unlisted,
-}
-
-// What the checks 7 to 10 say of a command: what it adds, or the number of the refusal.
-#[derive(Clone, Copy)]
-pub enum Judged {
-    Added(Addition),
-    Fault(u8),
-}
-
 // The table of each column. It stands beside the record, where it can be looked up in place.
 pub type Tables = [u8; Job::COLUMNS];
 
@@ -157,34 +143,34 @@ pub fn is_start(s: &[u8]) -> bool
 }
 
 // The command that a byte stands for.
-pub fn command(b: u8) -> Listed
-    ensures { result ≡ listed_of (command_of b) }
+pub fn command(b: u8) -> Option<Command>
+    ensures { result ≡ command_of b }
 {
     match b {
         0x10..=0x11 => if b == 0x10 {
-            Listed::As(Command::NextTable)
+            Some(Command::NextTable)
         } else {
-            Listed::As(Command::NextColumn)
+            Some(Command::NextColumn)
         },
         0x20..=0x21 => if b == 0x20 {
-            Listed::As(Command::ExtractBegins)
+            Some(Command::ExtractBegins)
         } else {
-            Listed::As(Command::QueryBegins)
+            Some(Command::QueryBegins)
         },
         0x30..=0x31 => if b == 0x30 {
-            Listed::As(Command::TableUsed)
+            Some(Command::TableUsed)
         } else {
-            Listed::As(Command::OutputColumn)
+            Some(Command::OutputColumn)
         },
         0x40..=0x42 => if b == 0x40 {
-            Listed::As(Command::NextClause)
+            Some(Command::NextClause)
         } else if b == 0x41 {
-            Listed::As(Command::NumberCompared)
+            Some(Command::NumberCompared)
         } else {
-            Listed::As(Command::ColumnCompared)
+            Some(Command::ColumnCompared)
         },
-        0xFF => Listed::As(Command::End),
-        _ => Listed::Unlisted,
+        0xFF => Some(Command::End),
+        _ => None,
     }
 }
 
@@ -333,7 +319,7 @@ fn is_above(e: Draft, t: u8) -> bool
 // ---- A command's operands, by the checks 7 to 10 in this order
 
 // 11: lo, hi.
-fn next_column(s: &[u8], cur: Cursor, job: Job, e: Draft) -> Judged
+fn next_column(s: &[u8], cur: Cursor, job: Job, e: Draft) -> Result<Addition, Fault>
     requires { (Ready cur job e NextColumn) × (cur.at + 9 ≤ length s.now) }
     ensures { Judges cur job e (entry_at NextColumn s.now cur.at) result }
 {
@@ -341,7 +327,7 @@ fn next_column(s: &[u8], cur: Cursor, job: Job, e: Draft) -> Judged
     let lo = words::read(s, at + 1);
     let hi = words::read(s, at + 5);
     if !are_bounds(lo, hi) {
-        return Judged::Fault(7);
+        return Err(Fault::OutOfRange);
     }
     // The table that was declared last.
     let table = (job.tables - 1) as u8;
@@ -350,44 +336,56 @@ fn next_column(s: &[u8], cur: Cursor, job: Job, e: Draft) -> Judged
         lo: lo,
         hi: hi,
     };
-    Judged::Added(Addition::Column(column))
+    Ok(Addition::Column(column))
 }
 
 // 30: a table, declared and above the ones before it.
-fn table_used(s: &[u8], cur: Cursor, job: Job, e: Draft) -> Judged
+fn table_used(s: &[u8], cur: Cursor, job: Job, e: Draft) -> Result<Addition, Fault>
     requires { (Ready cur job e TableUsed) × (cur.at + 2 ≤ length s.now) }
     ensures { Judges cur job e (entry_at TableUsed s.now cur.at) result }
 {
     let at = cur.at;
     let t = s[at + 1];
     if t as usize >= job.tables {
-        return Judged::Fault(9);
+        return Err(Fault::Undeclared);
     }
     if !is_above(e, t) {
-        return Judged::Fault(10);
+        return Err(Fault::NotNew);
     }
-    Judged::Added(Addition::Used(t))
+    Ok(Addition::Used(t))
 }
 
 // 31: a column in scope that is no output yet.
-fn output_column(s: &[u8], tables: &Tables, cur: Cursor, job: Job, e: Draft) -> Judged
+fn output_column(
+    s: &[u8],
+    tables: &Tables,
+    cur: Cursor,
+    job: Job,
+    e: Draft,
+) -> Result<Addition, Fault>
     requires { (Ready cur job e OutputColumn) × (cur.at + 2 ≤ length s.now) × (tables.now ≡ tables_in job) }
     ensures { Judges cur job e (entry_at OutputColumn s.now cur.at) result }
 {
     let at = cur.at;
     let c = s[at + 1];
     if !is_in_scope(tables, job, e, c) {
-        return Judged::Fault(9);
+        return Err(Fault::Undeclared);
     }
     let outputs = e.outputs;
     if base::is_among(&outputs, e.width, c) {
-        return Judged::Fault(10);
+        return Err(Fault::NotNew);
     }
-    Judged::Added(Addition::Output(c))
+    Ok(Addition::Output(c))
 }
 
 // 41: op, column, number. The number is judged before the op.
-fn number_compared(s: &[u8], tables: &Tables, cur: Cursor, job: Job, e: Draft) -> Judged
+fn number_compared(
+    s: &[u8],
+    tables: &Tables,
+    cur: Cursor,
+    job: Job,
+    e: Draft,
+) -> Result<Addition, Fault>
     requires { (Ready cur job e NumberCompared) × (cur.at + 7 ≤ length s.now) × (tables.now ≡ tables_in job) }
     ensures { Judges cur job e (entry_at NumberCompared s.now cur.at) result }
 {
@@ -397,14 +395,14 @@ fn number_compared(s: &[u8], tables: &Tables, cur: Cursor, job: Job, e: Draft) -
     let fits = in_range(number);
     let known = op <= 4;
     if !fits {
-        return Judged::Fault(7);
+        return Err(Fault::OutOfRange);
     }
     if !known {
-        return Judged::Fault(8);
+        return Err(Fault::UnknownOp);
     }
     let left = s[at + 2];
     if !is_in_scope(tables, job, e, left) {
-        return Judged::Fault(9);
+        return Err(Fault::Undeclared);
     }
     let k = Comparison {
         op: op,
@@ -412,26 +410,32 @@ fn number_compared(s: &[u8], tables: &Tables, cur: Cursor, job: Job, e: Draft) -
         right: 0,
         number: number,
     };
-    Judged::Added(Addition::Compared(k))
+    Ok(Addition::Compared(k))
 }
 
 // 42: op, column, column.
-fn column_compared(s: &[u8], tables: &Tables, cur: Cursor, job: Job, e: Draft) -> Judged
+fn column_compared(
+    s: &[u8],
+    tables: &Tables,
+    cur: Cursor,
+    job: Job,
+    e: Draft,
+) -> Result<Addition, Fault>
     requires { (Ready cur job e ColumnCompared) × (cur.at + 4 ≤ length s.now) × (tables.now ≡ tables_in job) }
     ensures { Judges cur job e (entry_at ColumnCompared s.now cur.at) result }
 {
     let at = cur.at;
     let op = s[at + 1];
     if op > 4 {
-        return Judged::Fault(8);
+        return Err(Fault::UnknownOp);
     }
     let left = s[at + 2];
     if !is_in_scope(tables, job, e, left) {
-        return Judged::Fault(9);
+        return Err(Fault::Undeclared);
     }
     let right = s[at + 3];
     if !is_in_scope(tables, job, e, right) {
-        return Judged::Fault(9);
+        return Err(Fault::Undeclared);
     }
     let k = Comparison {
         op: op,
@@ -439,24 +443,31 @@ fn column_compared(s: &[u8], tables: &Tables, cur: Cursor, job: Job, e: Draft) -
         right: right + 1,
         number: 0,
     };
-    Judged::Added(Addition::Compared(k))
+    Ok(Addition::Compared(k))
 }
 
 // A command that has passed the checks 2 to 6.
-pub fn enter(s: &[u8], tables: &Tables, cur: Cursor, job: Job, e: Draft, c: Command) -> Judged
+pub fn enter(
+    s: &[u8],
+    tables: &Tables,
+    cur: Cursor,
+    job: Job,
+    e: Draft,
+    c: Command,
+) -> Result<Addition, Fault>
     requires { (Ready cur job e c) × (cur.at + 1 + operands c ≤ length s.now) × (tables.now ≡ tables_in job) }
     ensures { Judges cur job e (entry_at c s.now cur.at) result }
 {
     match c {
-        Command::NextTable => Judged::Added(Addition::Table),
+        Command::NextTable => Ok(Addition::Table),
         Command::NextColumn => next_column(s, cur, job, e),
-        Command::ExtractBegins => Judged::Added(Addition::Nothing),
-        Command::QueryBegins => Judged::Added(Addition::Nothing),
+        Command::ExtractBegins => Ok(Addition::Nothing),
+        Command::QueryBegins => Ok(Addition::Nothing),
         Command::TableUsed => table_used(s, cur, job, e),
         Command::OutputColumn => output_column(s, tables, cur, job, e),
-        Command::NextClause => Judged::Added(Addition::Clause),
+        Command::NextClause => Ok(Addition::Clause),
         Command::NumberCompared => number_compared(s, tables, cur, job, e),
         Command::ColumnCompared => column_compared(s, tables, cur, job, e),
-        Command::End => Judged::Added(Addition::Nothing),
+        Command::End => Ok(Addition::Nothing),
     }
 }

@@ -9,6 +9,9 @@ use native.Mathlib.Omega.{arith}
 use lib.ListN.{length}
 use lib.Dec.{eqb}
 use borrow.Author.Tests.{eq-eqb, ne_eqb, not-false}
+use Rattle.std.specs.Prelude.{Result, Ok, Err}
+use Rattle.layout.specs.declared.Refusal.{Refusal}
+use Rattle.layout.specs.Faults.{refusal_of}
 use Rattle.layout.specs.Sound.{Sound}
 use Rattle.job.specs.declared.Expression.{Expression}
 use Rattle.job.specs.declared.Job.{Job}
@@ -22,12 +25,8 @@ use Rattle.commands.specs.declared.Cursor.{Cursor}
 use Rattle.commands.specs.declared.Draft.{Draft}
 use Rattle.commands.specs.declared.Addition.{Addition}
 use Rattle.commands.specs.Uses.{no_draft, drafted, state_in, placed, whole, tables_in, grown, Held}
-use Rattle.reader.specs.declared.Took.{Took}
-use Rattle.reader.specs.declared.Took.TheVariants.{Next, Refused}
-use Rattle.reader.specs.declared.Answer.TheVariants.{Whole}
-use Rattle.reader.specs.declared.Decoded.{Decoded}
-use Rattle.reader.specs.Answers.{went, halted, stepped_of, decoded_of}
-use Rattle.reader.specs.Uses.{Takes, refused_at, passed_on}
+use Rattle.reader.specs.Answers.{stepped_of, decoded_of}
+use Rattle.reader.specs.Uses.{Takes}
 
 -- after i commands: what is left gives what the whole gives
 pub record Midway (s : List ℕ) (i : ℕ) (cur : Cursor) (job : Job) (d : Draft) : Type 0 where
@@ -60,9 +59,9 @@ more : (n : ℕ) (s : List ℕ) (at : ℕ) (st : State) → 0 < n → read_from 
 more zero s at st h = absurd (omega arith)
 more (suc n) s at st h = rw sub-one
 
-stopped_is : (x : Step) (n p : ℕ) → halted n p ≡ stepped_of x → x ≡ stop n p
-stopped_is (next at st) n p e = let z : ◌≡◌ {A = ℕ} 0 1 = cc in absurd (omega arith)
-stopped_is (stop m q) n p e = cc
+stopped_is : (x : Step) (f : Refusal) → Err f ≡ stepped_of x → (n : ℕ) × (p : ℕ) × (x ≡ stop n p) × (f ≡ refusal_of n p)
+stopped_is (next at st) f e = let z : ◌≡◌ {A = ℕ} 0 1 = cc in absurd (omega arith)
+stopped_is (stop n p) f e = (n, p, refl, cc)
 
 -- a step that went on to a cursor and a record
 record Went (x : Step) (cur : Cursor) (r : Job) : Type 0 where
@@ -72,15 +71,17 @@ record Went (x : Step) (cur : Cursor) (r : Job) : Type 0 where
   begun : cur.in_query ≡ state.in_query
   job : r ≡ record_of state.job
 
-went_is : (x : Step) (cur : Cursor) (r : Job) → went cur r ≡ stepped_of x → Went x cur r
+went_is : (x : Step) (cur : Cursor) (r : Job) → Ok (cur, r) ≡ stepped_of x → Went x cur r
 went_is (next at st) cur r e =
-    let there : cur ≡ record { at = at; last = st.last; in_query = st.in_query } = cc in
+    let due : Cursor = record { at = at; last = st.last; in_query = st.in_query } in
+    let both : ◌≡◌ {A = Cursor × Job} (cur, r) (due, record_of st.job) = cc in
+    let there : cur ≡ due = ap (λ (p : Cursor × Job). p.0) both in
     record {
       state = st;
       step = ap (λ (c : Cursor). next c.at st) (sym there);
       last = ap (λ (c : Cursor). c.last) there;
       begun = ap (λ (c : Cursor). c.in_query) there;
-      job = cc;
+      job = ap (λ (p : Cursor × Job). p.1) both;
     }
 went_is (stop n p) cur r e = let z : ◌≡◌ {A = ℕ} 0 1 = cc in absurd (omega arith)
 
@@ -89,7 +90,7 @@ same_state : (su st : State) → su.last ≡ st.last → su.in_query ≡ st.in_q
 same_state su st e f g = rw (e, f, g)
 
 -- the query stays begun
-stays_begun : (s : List ℕ) (at : ℕ) (st : State) (cur : Cursor) (r : Job) → went cur r ≡ stepped_of (step_of s at st) → st.in_query ≡ true
+stays_begun : (s : List ℕ) (at : ℕ) (st : State) (cur : Cursor) (r : Job) → Ok (cur, r) ≡ stepped_of (step_of s at st) → st.in_query ≡ true
     → cur.in_query ≡ true
 stays_begun s at st cur r e q =
     let w = went_is (step_of s at st) cur r e in
@@ -142,25 +143,22 @@ turned : {s : List ℕ} {i : ℕ} {cur : Cursor} {job : Job} {d : Draft} → Mid
     → onward s (step_of s cur.at (state_in cur job d)) (read_from (length s - i - 1) s) ≡ read_of s
 turned {s} {i} {cur} {job} {d} m h = sym (more (length s - i) s cur.at (state_in cur job d) (omega arith)) ∙ m.left
 
-pub broken_off : {s : List ℕ} {i : ℕ} {cur : Cursor} {job : Job} {d : Draft} {r : Took} → Midway s i cur job d → i < length s
-    → Takes cur job d (step_of s cur.at (state_in cur job d)) r → (n p : ℕ) (a : Decoded) → r ≡ Refused n p → a ≡ passed_on r
-    → a ≡ decoded_of (read_of s)
-broken_off {s} {i} {cur} {job} {d} m h is n p a t q =
-    let stopped = stopped_is (step_of s cur.at (state_in cur job d)) n p (rw t at is).told in
-    q ∙ rw t (ap decoded_of (rw stopped at (turned m h)))
+pub broken_off : {s : List ℕ} {i : ℕ} {cur : Cursor} {job : Job} {d : Draft} {r : Result (Cursor × Addition) Refusal} → Midway s i cur job d
+    → i < length s → Takes cur job d (step_of s cur.at (state_in cur job d)) r → (f : Refusal) → r ≡ Err f
+    → ◌≡◌ {A = Result Job Refusal} (Err f) (decoded_of (read_of s))
+broken_off {s} {i} {cur} {job} {d} m h is f t =
+    let (n, p, stopped, e) = stopped_is (step_of s cur.at (state_in cur job d)) f (rw t at is).told in
+    rw e (ap decoded_of (rw stopped at (turned m h)))
 
 -- a command was taken
 pub record Turn (s : List ℕ) (i : ℕ) (cur : Cursor) (job : Job) (d : Draft) (new : Cursor) (x : Addition) : Type 0 where
   pub midway : Midway s i cur job d
   pub before : i < length s
-  pub told : went new (grown cur job d x) ≡ stepped_of (step_of s cur.at (state_in cur job d))
+  pub told : Ok (new, grown cur job d x) ≡ stepped_of (step_of s cur.at (state_in cur job d))
 
-pub taken_so : {cur : Cursor} {job : Job} {d : Draft} {st : Step} {r : Took} {new : Cursor} {x : Addition}
-    → Takes cur job d st r → r ≡ Next new x → went new (grown cur job d x) ≡ stepped_of st
+pub taken_so : {cur : Cursor} {job : Job} {d : Draft} {st : Step} {r : Result (Cursor × Addition) Refusal} {new : Cursor} {x : Addition}
+    → Takes cur job d st r → r ≡ Ok (new, x) → Ok (new, grown cur job d x) ≡ stepped_of st
 taken_so is took = (rw took at is).told
-
-abbrev whole_of : Job → Decoded
-whole_of r = record { answer = Whole; job = r }
 
 module _ {s : List ℕ} {i : ℕ} {cur : Cursor} {job : Job} {d : Draft} {new : Cursor} {x : Addition} (t : Turn s i cur job d new x) where
   -- the query begins once
@@ -200,23 +198,23 @@ module _ {s : List ℕ} {i : ℕ} {cur : Cursor} {job : Job} {d : Draft} {new : 
     at_end : new.last ≡ 0xFF → ended s new.at (state_in new j y) ≡ read_of s
     at_end n = rw (eq-eqb new.last 0xFF n) at left
 
-    pub too_long : (a : Decoded) → new.last ≡ 0xFF → new.at ≢ length s → a ≡ refused_at 11 new.at → a ≡ decoded_of (read_of s)
+    pub too_long : (a : Result Job Refusal) → new.last ≡ 0xFF → new.at ≢ length s → a ≡ Err (refusal_of 11 new.at) → a ≡ decoded_of (read_of s)
     too_long a n f q = q ∙ ap decoded_of (rw (ne_eqb new.at (length s) f) at (at_end n))
 
     -- the end stands in the query, which is put into the record
-    pub finished : (a : Decoded) → new.last ≡ 0xFF → new.at ≡ length s → a ≡ whole_of (placed true j (drafted y))
+    pub finished : (a : Result Job Refusal) → new.last ≡ 0xFF → new.at ≡ length s → a ≡ Ok (placed true j (drafted y))
         → a ≡ decoded_of (read_of s)
     finished a n f q =
         let closed : new.in_query ≡ true = held.sound.closed n in
-        q ∙ ap (λ (b : Bool). whole_of (placed b j (drafted y))) (sym closed) ∙ ap whole_of held.laid
+        q ∙ ap (λ (b : Bool). Ok (placed b j (drafted y))) (sym closed) ∙ ap Ok held.laid
         ∙ ap decoded_of (rw (eq-eqb new.at (length s) f) at (at_end n))
 
-pub none_left : (s : List ℕ) (i : ℕ) (cur : Cursor) (job : Job) (d : Draft) (a : Decoded) → Midway s i cur job d → length s ≤ i
-    → a ≡ refused_at 2 (length s) → a ≡ decoded_of (read_of s)
+pub none_left : (s : List ℕ) (i : ℕ) (cur : Cursor) (job : Job) (d : Draft) (a : Result Job Refusal) → Midway s i cur job d → length s ≤ i
+    → a ≡ Err (refusal_of 2 (length s)) → a ≡ decoded_of (read_of s)
 none_left s i cur job d a m h q =
     let none : length s - i ≡ 0 = omega arith in
     q ∙ ap decoded_of (rw none at m.left)
 
-pub not_started : (s : List ℕ) (a : Decoded) → starts s ≡ false → a ≡ refused_at 1 0 → a ≡ decoded_of (read_of s)
+pub not_started : (s : List ℕ) (a : Result Job Refusal) → starts s ≡ false → a ≡ Err (refusal_of 1 0) → a ≡ decoded_of (read_of s)
 unfolding read_of
 not_started s a e q = rw e q

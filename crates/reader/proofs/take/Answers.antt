@@ -18,17 +18,17 @@ returns-then-not-whole c =
     let whole = bytes_are _ _ _ _ c.has_bytes-whole.ensures c.operands-n.ensures in
     too_short _ _ _ _ _ _ due room (sym whole ∙ c.if-not-whole.true)
 
-pub returns-in-Added : goal.returns-in-Added
-returns-in-Added c =
+pub returns-in-Ok : goal.returns-in-Ok
+returns-in-Ok c =
     let due = sym c.follows-due.ensures ∙ c.if-not-due.false in
     let room = sym c.has_room-room.ensures ∙ c.if-not-room.false in
     let whole = bytes_are _ _ _ _ c.has_bytes-whole.ensures c.operands-n.ensures in
-    went_on _ _ _ _ _ _ _ c.enter-judged.ensures due room (sym whole ∙ c.if-not-whole.false) _ _ _ c.in-Added.is c.has_begun.ensures
+    went_on _ _ _ _ _ _ _ c.enter-judged.ensures due room (sym whole ∙ c.if-not-whole.false) _ _ _ c.in-Ok.is c.has_begun.ensures
     c.operands-n.ensures
 
-pub returns-in-Fault : goal.returns-in-Fault
-returns-in-Fault c =
+pub returns-in-Err : goal.returns-in-Err
+returns-in-Err c =
     let due = sym c.follows-due.ensures ∙ c.if-not-due.false in
     let room = sym c.has_room-room.ensures ∙ c.if-not-room.false in
     let whole = bytes_are _ _ _ _ c.has_bytes-whole.ensures c.operands-n.ensures in
-    broke_off _ _ _ _ _ _ _ c.enter-judged.ensures due room (sym whole ∙ c.if-not-whole.false) _ c.in-Fault.is
+    broke_off _ _ _ _ _ _ _ c.enter-judged.ensures due room (sym whole ∙ c.if-not-whole.false) _ c.in-Err.is
