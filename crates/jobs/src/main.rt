@@ -11,7 +11,6 @@ ghost use Rattle.std.specs.Prelude.{◌+◌, ◌<◌, ◌≤◌, length};
 use databases::Database;
 use job::Job;
 use pobghine::{Decision, Written};
-use reader::Answer;
 use std::io::{Read, Write};
 
 // The functions that answer with a bool say whether a further job may follow.
@@ -74,11 +73,9 @@ fn answer_job<R: Read, W: Write>(input: &mut R, output: &mut W, s: &mut [u8]) ->
     if input.read_exact(s).is_err() {
         return false;
     }
-    let decoded = pobghine::read(s);
-    let answer = decoded.answer;
-    match answer {
-        Answer::Refused(number, at) => put_head(output, number, at),
-        Answer::Whole => answer_whole(output, decoded.job),
+    match pobghine::read(s) {
+        Ok(job) => answer_whole(output, job),
+        Err(refusal) => put_head(output, u8::from(refusal.fault), refusal.at),
     }
 }
 

@@ -5,6 +5,7 @@ use Prim.Native.Nat.{ℕ}
 use native.Mathlib.Omega.{arith}
 use lib.Dec.{T}
 use mir.Facts.{and_yes}
+use Rattle.std.specs.Prelude.{Result, Ok, Err}
 use Rattle.base.proofs.Tests.{same_test, T-is}
 use Rattle.model.specs.Tables as model
 use Rattle.model.specs.WellFormed.{well_formed}
@@ -14,10 +15,9 @@ use Rattle.job.specs.Meaning.{meaning_of, record_of}
 use Rattle.job.specs.Same.{same_job}
 use Rattle.job.proofs.Meaning.{meaning_record}
 use Rattle.job.proofs.Equal.{same_is, same_self}
+use Rattle.layout.specs.declared.Refusal.{Refusal}
 use Rattle.layout.specs.Reading.{Reading, accepted, refused, read_of}
 use Rattle.layout.proofs.Theorems as layout
-use Rattle.reader.specs.declared.Decoded.{Decoded}
-use Rattle.reader.specs.declared.Answer.TheVariants.{Whole, Refused}
 use Rattle.reader.specs.Answers.{decoded_of}
 use Rattle.pobghine.specs.Records.{is_read, bytes_of}
 
@@ -32,37 +32,34 @@ pub is_judged : (j : model.Job) → T (well_formed j) → T (is_read (record_of 
 unfolding is_read
 is_judged j w = rw (meaning_back j w, same_self (record_of j), T-is (well_formed j) w) tt
 
-pub whole_is : (x : Reading) (r : Job) → decoded_of x ≡ record { answer = Whole; job = r }
-    → (j : model.Job) × (x ≡ accepted j) × (record_of j ≡ r)
-whole_is (accepted j) r e = (j, refl, ap (λ (d : Decoded). d.job) e)
-whole_is (refused n at) r e =
-    let f : Refused n at ≡ Whole = ap (λ (d : Decoded). d.answer) e in
-    let z : ◌≡◌ {A = ℕ} 0 1 = cc in absurd (omega arith)
+pub whole_is : (x : Reading) (r : Job) → decoded_of x ≡ Ok r → (j : model.Job) × (x ≡ accepted j) × (record_of j ≡ r)
+whole_is (accepted j) r e = (j, refl, cc)
+whole_is (refused n at) r e = let z : ◌≡◌ {A = ℕ} 0 1 = cc in absurd (omega arith)
 
 -- ---- by writing a record and reading what was written
-pub again : (r : Job) → T (is_read r) → decoded_of (read_of (bytes_of r)) ≡ record { answer = Whole; job = r }
+pub again : (r : Job) → T (is_read r) → decoded_of (read_of (bytes_of r)) ≡ Ok r
 again r t =
     let (w, e) = judged_is r t in
-    rw (layout.read_written (meaning_of r) w) (ap (λ x. record { answer = Whole; job = x }) e)
+    rw (layout.read_written (meaning_of r) w) (ap Ok e)
 
-module _ (r : Job) (d : Decoded) (e : d ≡ decoded_of (read_of (bytes_of r))) where
-  pub judged_whole : d.answer ≡ Whole → same_job r d.job ≡ is_read r
-  judged_whole w = same_test (same_job r d.job) (is_read r) to from
+module _ (r : Job) (d : Result Job Refusal) (e : d ≡ decoded_of (read_of (bytes_of r))) where
+  pub judged_whole : (b : Job) → d ≡ Ok b → same_job r b ≡ is_read r
+  judged_whole b w = same_test (same_job r b) (is_read r) to from
     where
-      to : T (same_job r d.job) → T (is_read r)
+      to : T (same_job r b) → T (is_read r)
       to t =
-          let f : decoded_of (read_of (bytes_of r)) ≡ record { answer = Whole; job = d.job }
-          = sym e ∙ ap (λ x. record { answer = x; job = d.job }) w in
-          let (j, a, g) = whole_is (read_of (bytes_of r)) d.job f in
-          rw (same_is r d.job t) (rw g at (is_judged j (layout.read_formed (bytes_of r) j a)))
+          let (j, a, g) = whole_is (read_of (bytes_of r)) b (sym e ∙ w) in
+          rw (same_is r b t) (rw g at (is_judged j (layout.read_formed (bytes_of r) j a)))
 
-      from : T (is_read r) → T (same_job r d.job)
-      from t = let f : d.job ≡ r = ap (λ (x : Decoded). x.job) (e ∙ again r t) in rw (f, same_self r) tt
+      from : T (is_read r) → T (same_job r b)
+      from t =
+          let both : ◌≡◌ {A = Result Job Refusal} (Ok b) (Ok r) = sym w ∙ e ∙ again r t in
+          let f : b ≡ r = cc in rw (f, same_self r) tt
 
-  pub judged_refused : (n at : ℕ) → d.answer ≡ Refused n at → false ≡ is_read r
-  judged_refused n at w = same_test false (is_read r) (λ t. absurd t) (λ t. clash t)
+  pub judged_refused : (f : Refusal) → d ≡ Err f → false ≡ is_read r
+  judged_refused f w = same_test false (is_read r) (λ t. absurd t) (λ t. clash t)
     where
       clash : T (is_read r) → ⊥
       clash t =
-          let f : Refused n at ≡ Whole = sym w ∙ ap (λ (x : Decoded). x.answer) (e ∙ again r t) in
+          let both : ◌≡◌ {A = Result Job Refusal} (Err f) (Ok r) = sym w ∙ e ∙ again r t in
           let z : ◌≡◌ {A = ℕ} 0 1 = cc in omega arith

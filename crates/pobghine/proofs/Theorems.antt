@@ -8,6 +8,7 @@ use lib.ListN.{length, drop}
 use lib.Dec.{T}
 use mir.Facts.{and_yes}
 use borrow.Author.Tests.{le-leb}
+use Rattle.std.specs.Prelude.{Ok}
 use Rattle.base.specs.Bytes.{Bytes}
 use Rattle.base.proofs.Tests.{T-is}
 use Rattle.model.specs.Tables as model
@@ -20,7 +21,6 @@ use Rattle.job.specs.Meaning.{meaning_of, record_of}
 use Rattle.job.proofs.Tidy.{record_tidy}
 use Rattle.layout.specs.Reading.{read_of}
 use Rattle.layout.proofs.Theorems as layout
-use Rattle.reader.specs.declared.Answer.TheVariants.{Whole}
 use Rattle.reader.specs.Answers.{decoded_of}
 use Rattle.databases.specs.declared.Database.{Database}
 use Rattle.databases.specs.Databases.{no_database, database_of}
@@ -33,7 +33,7 @@ use Rattle.pobghine.proofs.Judged.{meaning_back, judged_is, is_judged, whole_is,
 
 -- these are bytes, and reading them gives this record
 abbrev pub ReadAs : List ℕ → Job → Type 0
-ReadAs s r = Bytes s × (decoded_of (read_of s) ≡ record { answer = Whole; job = r })
+ReadAs s r = Bytes s × (decoded_of (read_of s) ≡ Ok r)
 
 -- a record that was read is judged to be one, and its bytes are those that were read
 pub read_is : (s : List ℕ) (r : Job) → ReadAs s r → T (is_read r) × (bytes_of r ≡ s)

@@ -9,10 +9,10 @@ ghost use Rattle.pobghine.specs.Deciding.{decision_of, listing_in, PairOf};
 
 use databases::Database;
 use job::{Columns, Job};
-use reader::{Answer, Decoded};
+use layout::Refusal;
 
-// Reads a job: its record, or a refusal with the empty record beside it.
-pub fn read(s: &[u8]) -> Decoded
+// Reads a job: its record, or a refusal.
+pub fn read(s: &[u8]) -> Result<Job, Refusal>
     ensures { result ≡ decoded_of (read_of s.now) }
 {
     reader::read(s)
@@ -24,10 +24,7 @@ fn is_read(job: Job) -> bool
 {
     let mut bytes = [0u8; writer::MAX_JOB_BYTES];
     let n = writer::write(job, &mut bytes);
-    let back = reader::read(&bytes[..n]);
-    let answer = back.answer;
-    let again = back.job;
-    let Answer::Whole = answer else {
+    let Ok(again) = reader::read(&bytes[..n]) else {
         return false;
     };
     job::same(job, again)

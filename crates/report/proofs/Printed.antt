@@ -5,6 +5,7 @@ use Prim.Native.Nat.{ℕ, ◌≤◌}
 use native.Mathlib.Omega.{arith}
 use lib.ListN.{length, take}
 use lib.Dec.{T}
+use Rattle.std.specs.Prelude.{Result, Ok, Err}
 use Rattle.base.specs.Lists.{tabulate}
 use Rattle.base.specs.Arrays.{padded}
 use Rattle.base.proofs.Tests.{T-is}
@@ -16,11 +17,11 @@ use Rattle.model.proofs.Formed.{well_formed_lem}
 use Rattle.model.specs.Verdict.{columns}
 use Rattle.job.specs.declared.Job.{Job}
 use Rattle.job.specs.Meaning.{record_of}
+use Rattle.layout.specs.declared.Refusal.{Refusal}
+use Rattle.layout.specs.Faults.{number_of_fault}
+use Rattle.layout.proofs.Faults.{read_numbered}
 use Rattle.layout.specs.Reading.{Reading, accepted, refused, read_of}
 use Rattle.layout.proofs.Theorems.{read_formed, read_enough}
-use Rattle.reader.specs.declared.Answer.{Answer}
-use Rattle.reader.specs.declared.Answer.TheVariants as read
-use Rattle.reader.specs.declared.Decoded.{Decoded}
 use Rattle.reader.specs.Answers.{decoded_of}
 use Rattle.verdict.specs.Verdict.{listing_record}
 use Rattle.pobghine.specs.declared.Decision.{Decision}
@@ -55,36 +56,33 @@ unfolding record_text decision_of listing_in listing_record
 record_job j w = rw (T-is (is_read (record_of j)) (is_judged j w), meaning_back j w, row_width j, listed_first _ 16 (length (columns j)))
 
 -- ---- of bytes
-abbrev answer_text : Answer → List ℕ → List ℕ
-answer_text read.Whole text = text
-answer_text (read.Refused n at) text = refusal_text n at
+abbrev answer_text : Result Job Refusal → List ℕ
+answer_text (Ok r) = record_text r
+answer_text (Err f) = refusal_text (number_of_fault f.fault) f.at
 
-text_read : (s : List ℕ) → answer_text (decoded_of (read_of s)).answer (record_text (decoded_of (read_of s)).job) ≡ printed s
+text_read : (s : List ℕ) → answer_text (decoded_of (read_of s)) ≡ printed s
 unfolding printed
 text_read s = go (read_of s) refl
   where
-    go : (x : Reading) → read_of s ≡ x → answer_text (decoded_of x).answer (record_text (decoded_of x).job) ≡ reading_text x
+    go : (x : Reading) → read_of s ≡ x → answer_text (decoded_of x) ≡ reading_text x
     go (accepted j) e = record_job j (read_formed s j e)
-    go (refused n at) e = refl
+    go (refused n at) e = ap (λ (m : ℕ). refusal_text m at) (read_numbered s e)
 
-module _ (s : List ℕ) {d : Decoded} (is : d ≡ decoded_of (read_of s)) where
-  text_is : answer_text d.answer (record_text d.job) ≡ printed s
-  text_is = ap (λ (x : Decoded). answer_text x.answer (record_text x.job)) is ∙ text_read s
+module _ (s : List ℕ) {d : Result Job Refusal} (is : d ≡ decoded_of (read_of s)) where
+  pub refused_text : {f : Refusal} → d ≡ Err f → refusal_text (number_of_fault f.fault) f.at ≡ printed s
+  refused_text e = ap answer_text (sym e ∙ is) ∙ text_read s
 
-  pub refused_text : {n at : ℕ} → d.answer ≡ read.Refused n at → refusal_text n at ≡ printed s
-  refused_text e = sym (ap (λ a. answer_text a (record_text d.job)) e) ∙ text_is
-
-  pub whole_text : d.answer ≡ read.Whole → record_text d.job ≡ printed s
-  whole_text e = sym (ap (λ a. answer_text a (record_text d.job)) e) ∙ text_is
+  pub whole_text : {r : Job} → d ≡ Ok r → record_text r ≡ printed s
+  whole_text e = ap answer_text (sym e ∙ is) ∙ text_read s
 
 -- ---- a record that was read has at most 16 columns
-pub few_read : (s : List ℕ) → (decoded_of (read_of s)).job.width ≤ 16
+pub few_read : (s : List ℕ) (r : Job) → Ok r ≡ decoded_of (read_of s) → r.width ≤ 16
 unfolding record_of
-few_read s = go (read_of s) refl
+few_read s r = go (read_of s) refl
   where
-    go : (x : Reading) → read_of s ≡ x → (decoded_of x).job.width ≤ 16
-    go (accepted j) e = (well_formed_lem j (read_formed s j e)).limits.few_columns
-    go (refused n at) e = omega arith
+    go : (x : Reading) → read_of s ≡ x → Ok r ≡ decoded_of x → r.width ≤ 16
+    go (accepted j) e f = let g : r ≡ record_of j = cc in rw g ((well_formed_lem j (read_formed s j e)).limits.few_columns)
+    go (refused n at) e f = let z : ◌≡◌ {A = ℕ} 0 1 = cc in absurd (omega arith)
 
 -- ---- the first 600 bytes tell what is printed
 pub printed_enough : (s : List ℕ) → 600 ≤ length s → printed (take 600 s) ≡ printed s

@@ -9,7 +9,6 @@ ghost use Rattle.report.specs.Printed.{printed, record_text};
 
 use job::Job;
 use pobghine::Decision;
-use reader::Answer;
 
 // Enough bytes for every text: a verdict would take as many if its kind and the listing of 16 columns had three digits each.
 pub const MOST: usize = 81;
@@ -94,10 +93,8 @@ pub fn text(s: &[u8], out: &mut [u8]) -> usize
     ensures count { result ≡ length (printed s.now) }
     ensures bytes { out.new ≡ printed s.now ++ drop (length (printed s.now)) out.old }
 {
-    let decoded = pobghine::read(s);
-    let answer = decoded.answer;
-    match answer {
-        Answer::Refused(number, at) => refusal(number, at, out),
-        Answer::Whole => decided(decoded.job, out),
+    match pobghine::read(s) {
+        Ok(job) => decided(job, out),
+        Err(refused) => refusal(u8::from(refused.fault), refused.at, out),
     }
 }

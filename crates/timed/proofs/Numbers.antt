@@ -2,28 +2,27 @@
 use mathlib.Core.Path.{◌≡◌, sym, ap, ◌∙◌}
 use mathlib.Core.List.{List}
 use Prim.Native.Nat.{ℕ}
+use Rattle.std.specs.Prelude.{Result, Ok, Err}
+use Rattle.job.specs.declared.Job.{Job}
+use Rattle.layout.specs.declared.Refusal.{Refusal}
 use Rattle.layout.specs.Reading.{read_of}
-use Rattle.reader.specs.declared.Decoded.{Decoded}
-use Rattle.reader.specs.declared.Answer.TheVariants as read
 use Rattle.reader.specs.Answers.{decoded_of}
 use Rattle.pobghine.specs.declared.Decision.{Decision}
 use Rattle.pobghine.specs.Deciding.{decision_of}
 use Rattle.timed.specs.Call.{if_whole, kind_in, read_number, kind_number}
 
-module _ (s : List ℕ) {d : Decoded} (is : d ≡ decoded_of (read_of s)) where
-  pub whole_read : d.answer ≡ read.Whole → 0 ≡ read_number s
-  whole_read w = ap (λ a. if_whole a 0) (sym w ∙ ap (λ (d : Decoded). d.answer) is)
+module _ (s : List ℕ) {d : Result Job Refusal} (is : d ≡ decoded_of (read_of s)) where
+  pub whole_read : {r : Job} → d ≡ Ok r → 0 ≡ read_number s
+  whole_read w = ap (λ x. if_whole x (λ r. 0)) (sym w ∙ is)
 
-  module _ {n at : ℕ} (w : d.answer ≡ read.Refused n at) where
+  module _ {f : Refusal} (w : d ≡ Err f) where
     pub refused_read : 255 ≡ read_number s
-    refused_read = ap (λ a. if_whole a 0) (sym w ∙ ap (λ (d : Decoded). d.answer) is)
+    refused_read = ap (λ x. if_whole x (λ r. 0)) (sym w ∙ is)
 
     pub refused_decided : 255 ≡ kind_number s
-    refused_decided = ap (λ a. if_whole a (kind_in (decision_of (decoded_of (read_of s)).job))) (sym w ∙ ap (λ (d : Decoded). d.answer) is)
+    refused_decided = ap (λ x. if_whole x (λ r. kind_in (decision_of r))) (sym w ∙ is)
 
   -- a is what deciding answers
-  module _ (w : d.answer ≡ read.Whole) {a : Decision} (told : a ≡ decision_of d.job) where
+  module _ {r : Job} (w : d ≡ Ok r) {a : Decision} (told : a ≡ decision_of r) where
     pub number_decided : kind_in a ≡ kind_number s
-    number_decided =
-        ap kind_in (told ∙ ap (λ (d : Decoded). decision_of d.job) is)
-        ∙ ap (λ b. if_whole b (kind_in (decision_of (decoded_of (read_of s)).job))) (sym w ∙ ap (λ (d : Decoded). d.answer) is)
+    number_decided = ap kind_in told ∙ ap (λ x. if_whole x (λ r. kind_in (decision_of r))) (sym w ∙ is)

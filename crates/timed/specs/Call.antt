@@ -1,9 +1,9 @@
 -- What the exported functions take and answer.
-use Rattle.std.specs.Prelude.{List, ℕ}
+use Rattle.std.specs.Prelude.{List, ℕ, Result, Ok, Err}
 use Rattle.zone.specs.declared.Constraint.{Constraint}
+use Rattle.job.specs.declared.Job.{Job}
+use Rattle.layout.specs.declared.Refusal.{Refusal}
 use Rattle.layout.specs.Reading.{read_of}
-use Rattle.reader.specs.declared.Answer.{Answer}
-use Rattle.reader.specs.declared.Answer.TheVariants as read
 use Rattle.reader.specs.Answers.{decoded_of}
 use Rattle.pobghine.specs.declared.Decision.{Decision}
 use Rattle.pobghine.specs.declared.Decision.TheVariants as decided
@@ -14,16 +14,16 @@ abbrev pub passed : ℕ → ℕ → ℕ → Constraint
 passed left right most = record { left = left; right = right; most = most }
 
 -- a number for a job that reading accepts, else 255
-abbrev pub if_whole : Answer → ℕ → ℕ
-if_whole read.Whole n = n
-if_whole (read.Refused k at) n = 255
+abbrev pub if_whole : Result Job Refusal → (Job → ℕ) → ℕ
+if_whole (Ok r) f = f r
+if_whole (Err e) f = 255
 
 abbrev pub kind_in : Decision → ℕ
 kind_in (decided.Kind k) = k
 kind_in (decided.Refused n at) = 255
 
 abbrev pub read_number : List ℕ → ℕ
-read_number s = if_whole (decoded_of (read_of s)).answer 0
+read_number s = if_whole (decoded_of (read_of s)) (λ r. 0)
 
 abbrev pub kind_number : List ℕ → ℕ
-kind_number s = if_whole (decoded_of (read_of s)).answer (kind_in (decision_of (decoded_of (read_of s)).job))
+kind_number s = if_whole (decoded_of (read_of s)) (λ r. kind_in (decision_of r))

@@ -8,7 +8,6 @@ ghost use Rattle.zone.specs.Uses.{Constrains};
 ghost use Rattle.timed.specs.Call.{passed, read_number, kind_number};
 
 use pobghine::Decision;
-use reader::Answer;
 use zone::Constraint;
 
 // `zone::constrain`, with the constraint in parts: a struct would be passed in memory.
@@ -32,11 +31,9 @@ pub extern "C" fn timed_constrain(
 pub extern "C" fn timed_read(bytes: &[u8]) -> u8
     ensures { result ≡ read_number bytes.now }
 {
-    let decoded = pobghine::read(bytes);
-    let answer = decoded.answer;
-    match answer {
-        Answer::Whole => 0,
-        Answer::Refused(_number, _at) => 255,
+    match pobghine::read(bytes) {
+        Ok(_job) => 0,
+        Err(_refusal) => 255,
     }
 }
 
@@ -45,12 +42,10 @@ pub extern "C" fn timed_read(bytes: &[u8]) -> u8
 pub extern "C" fn timed_decide(bytes: &[u8]) -> u8
     ensures { result ≡ kind_number bytes.now }
 {
-    let decoded = pobghine::read(bytes);
-    let answer = decoded.answer;
-    let Answer::Whole = answer else {
+    let Ok(job) = pobghine::read(bytes) else {
         return 255;
     };
-    let decided = pobghine::decide(decoded.job);
+    let decided = pobghine::decide(job);
     let decision = decided.answer;
     match decision {
         Decision::Kind(kind) => kind,

@@ -24,16 +24,16 @@ slice_bounds-read-end c =
 
 pub returns-in_default : goal.returns-in_default
 returns-in_default c =
-    let read_again : c.read-back.result ≡ decoded_of (read_of (bytes_of c.args.job)) =
+    let read_again : c.read.result ≡ decoded_of (read_of (bytes_of c.args.job)) =
     let w = c.write-n in
     let bytes = front c.args.job _ _ _ w.ensures.count w.ensures.bytes in
-    c.read-back.ensures ∙ ap (λ s. decoded_of (read_of s)) bytes in
-    judged_refused _ _ read_again _ _ c.in_default.is
+    c.read.ensures ∙ ap (λ s. decoded_of (read_of s)) bytes in
+    judged_refused _ _ read_again _ c.in_default.is
 
 pub returns : goal.returns
 returns c =
-    let read_again : c.read-back.result ≡ decoded_of (read_of (bytes_of c.args.job)) =
+    let read_again : c.read.result ≡ decoded_of (read_of (bytes_of c.args.job)) =
     let w = c.write-n in
     let bytes = front c.args.job _ _ _ w.ensures.count w.ensures.bytes in
-    c.read-back.ensures ∙ ap (λ s. decoded_of (read_of s)) bytes in
-    c.same.ensures ∙ judged_whole _ _ read_again c.in-Whole.is
+    c.read.ensures ∙ ap (λ s. decoded_of (read_of s)) bytes in
+    c.same.ensures ∙ judged_whole _ _ read_again _ c.in-Ok.is
