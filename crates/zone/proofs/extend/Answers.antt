@@ -9,21 +9,20 @@ least-requires c = c.requires.room
 pub loop-k-init : goal.loop-k-init
 loop-k-init c = raise_start c.requires c.least.ensures
 
-pub overflow_mul-wide : goal.overflow_mul-wide
-overflow_mul-wide c =
+pub overflow_mul-from : goal.overflow_mul-from
+overflow_mul-from c =
     let u = c.requires in
-    omega (arith, next_in u c.loop-k.invariant (omega arith) c.wide.ensures.0)
+    omega (arith, next_in u c.loop-k.invariant (omega arith) c.from.ensures)
 
 pub raise-requires : goal.raise-requires
 raise-requires c =
     let u = c.requires in
-    next_asks u c.loop-k.invariant (omega arith) c.wide.ensures.0
+    next_asks u c.loop-k.invariant (omega arith) c.from.ensures
 
 pub loop-k-preserved : goal.loop-k-preserved
 loop-k-preserved c =
     let u = c.requires in
-    let w = c.wide in
-    raise_turn u c.loop-k.invariant (omega arith) w.ensures.0 c.raise.ensures
+    raise_turn u c.loop-k.invariant (omega arith) c.from.ensures c.raise.ensures
 
 pub bounds-x-0 : goal.bounds-x-0
 bounds-x-0 c =

@@ -1,10 +1,7 @@
 -- `zone::extend` meets its contract: the row is raised by the given values from the last to the first, as the definition recurses.
--- The measure is the number of values that are left. Assumes nothing.
+-- Assumes nothing.
 use Rattle.zone.proofs.Values.{Raising}
 use Rattle.zone.proofs.extend.Given as goal
 
 abbrev pub invariant-loop-k : goal.invariant-loop-k
 invariant-loop-k l = Raising l.n l.d l.ps l.vs l.k l.x
-
-abbrev pub decreases-loop-k : goal.decreases-loop-k
-decreases-loop-k l = l.k

@@ -1,23 +1,24 @@
+use mathlib.Core.Path.{◌∙◌}
 use native.Mathlib.Omega.{arith}
-use Rattle.zone.proofs.Values.{compare_start, compare_end, compare_turn, compare_not, next_there}
+use lib.ListN.{length-append}
+use Rattle.std.proofs.lemmas.Slice.Zip.{zip_turn, zip_end}
+use Rattle.zone.proofs.Values.{compare_start, compare_end, compare_turn, compare_not}
 use Rattle.zone.proofs.has_values.Goals as goal
 
-pub loop-k-init : goal.loop-k-init
-loop-k-init c = compare_start _ _ _
+pub loop-p-init : goal.loop-p-init
+loop-p-init c = compare_start _ _ _
 
-pub offset_bounds-x-p : goal.offset_bounds-x-p
-offset_bounds-x-p c = omega (arith, next_there c.requires c.loop-k.invariant (omega arith) c.wide-p.ensures.0)
+pub returns-then-x-from : goal.returns-then-x-from
+returns-then-x-from c =
+    let t = zip_turn c.args.ps.now c.args.vs.now _ _ _ c.next.new.self _ (cc) (cc) c.loop-p.yielded_by _ c.in-Some.is c.next.ensures.steps in
+    compare_not c.requires c.loop-p.invariant t.0 (c.from.ensures ∙ t.2 0) (λ e. c.if-x-from.true (e ∙ cc (t.3 0)))
 
-pub bounds-x-p : goal.bounds-x-p
-bounds-x-p c = omega (arith, next_there c.requires c.loop-k.invariant (omega arith) c.wide-p.ensures.0)
-
-pub returns-then-x-p : goal.returns-then-x-p
-returns-then-x-p c =
-    compare_not c.requires c.loop-k.invariant (omega arith) c.wide-p.ensures.0 c.if-x-p.true
-
-pub loop-k-preserved : goal.loop-k-preserved
-loop-k-preserved c =
-    compare_turn c.requires c.loop-k.invariant (omega arith) c.wide-p.ensures.0 c.if-x-p.false
+pub loop-p-preserved : goal.loop-p-preserved
+loop-p-preserved c =
+    let t = zip_turn c.args.ps.now c.args.vs.now _ _ _ c.next.new.self _ (cc) (cc) c.loop-p.yielded_by _ c.in-Some.is c.next.ensures.steps in
+    compare_turn c.requires c.loop-p.invariant t.0 (c.from.ensures ∙ t.2 0) (c.if-x-from.false ∙ t.3 0) (length-append c.loop-p.yielded _)
 
 pub returns : goal.returns
-returns c = compare_end c.loop-k.invariant c.loop-k-test.false
+returns c =
+    let t = zip_end c.args.ps.now c.args.vs.now _ _ _ c.next.new.self _ (cc) (cc) c.loop-p.yielded_by c.in-None.is c.next.ensures.steps in
+    compare_end c.loop-p.invariant (omega (arith, t, c.requires.same))

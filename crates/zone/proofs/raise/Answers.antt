@@ -9,7 +9,7 @@ loop-y-init c = pass_start _ _ _ _
 pub loop-y-preserved : goal.loop-y-preserved
 loop-y-preserved c =
     let u = c.requires in
-    raised_turn u c.loop-y.invariant (omega arith) c.above.ensures c.larger.ensures
+    raised_turn u c.loop-y.invariant (omega arith) c.saturating_sub.ensures c.max.ensures
 
 pub shape_of-x : goal.shape_of-x
 shape_of-x c = c.loop-y.invariant.size

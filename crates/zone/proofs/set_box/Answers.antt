@@ -6,8 +6,8 @@ use Rattle.zone.proofs.set_box.Goals as goal
 pub loop-i-init : goal.loop-i-init
 loop-i-init c = rows_start _ _ _
 
-pub overflow_add-hi : goal.overflow_add-hi
-overflow_add-hi c =
+pub overflow_add-greatest : goal.overflow_add-greatest
+overflow_add-greatest c =
     let u = c.requires in
     omega (arith, u.bounds.limited c.loop-i.i (omega arith))
 

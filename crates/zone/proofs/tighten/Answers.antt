@@ -8,8 +8,8 @@ use Rattle.zone.proofs.tighten.Goals.{else-p-d, then-p-d}
 pub loop-i-init : goal.loop-i-init
 loop-i-init c = rows_start _ _ _
 
-pub overflow_add-p : goal.overflow_add-p
-overflow_add-p c = omega (arith, ends_fit c.requires c.loop-i.invariant (omega arith))
+pub overflow_add-p-in-loop-i : goal.overflow_add-p-in-loop-i
+overflow_add-p-in-loop-i c = omega (arith, ends_fit c.requires c.loop-i.invariant (omega arith))
 
 pub overflow_add-d : goal.overflow_add-d
 overflow_add-d c = omega (arith, ends_fit c.requires c.loop-i.invariant (omega arith))

@@ -1,6 +1,5 @@
 -- `zone::tighten` meets its contract: a pass over the rows of the zone, in which a row that is left out is what it would become.
--- The measure is the number of rows that are left. Assumes nothing.
-use Prim.Native.Nat.{◌-◌}
+-- Assumes nothing.
 use Rattle.zone.specs.Array.{zone_in}
 use Rattle.zone.proofs.Rows.{RowPass}
 use Rattle.zone.proofs.Ranges.{closer}
@@ -8,6 +7,3 @@ use Rattle.zone.proofs.tighten.Given as goal
 
 abbrev pub invariant-loop-i : goal.invariant-loop-i
 invariant-loop-i l = RowPass (closer (zone_in l.n l.initial.d) l.a l.b l.w) l.n l.i l.initial.d l.d
-
-abbrev pub decreases-loop-i : goal.decreases-loop-i
-decreases-loop-i l = l.n - l.i

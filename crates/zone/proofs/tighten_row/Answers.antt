@@ -19,7 +19,7 @@ overflow_sub-p c =
 pub loop-j-preserved : goal.loop-j-preserved
 loop-j-preserved c =
     let u = c.requires in
-    lowered_turn u c.loop-j.invariant (omega arith) c.lesser.ensures
+    lowered_turn u c.loop-j.invariant (omega arith) c.min.ensures
 
 pub shape_of-d : goal.shape_of-d
 shape_of-d c = c.loop-j.invariant.size
