@@ -1,53 +1,105 @@
--- Bounds given as two lists: their nodes, and the box that these make. Assumes nothing.
-use mathlib.Core.Path.{◌≡◌, refl, ap, ◌∙◌}
-use mathlib.Core.List.{List, [], ◌∷◌, ◌++◌, map}
-use Prim.Native.Nat.{ℕ, suc, ◌+◌, ◌≤◌}
+-- The nodes of bounds, and the box that these make. Assumes nothing.
+use mathlib.Core.Path.{◌≡◌, refl, sym, ap, ◌∙◌}
+use mathlib.Core.List.{List}
+use Prim.Native.Nat.{ℕ, ◌+◌, ◌<◌, ◌≤◌}
 use native.Mathlib.Omega.{arith}
-use lib.ListN.{length, take, length-append}
+use borrow.Author.Count.{below_more}
+use lib.ListN.{length, get_or, set, take, replicate, length-map}
 use lib.Seq.{take_at}
-use lib.IntN.{ℤ}
-use Rattle.model.specs.Tables.{Row}
+use lib.IntN.{ℤ, pos}
+use lib.Signed.{mag}
+use Rattle.base.specs.Lists.{at}
+use Rattle.base.proofs.Arrays.{Pass, pass_there, pass_end, front_turn, filled_front}
+use Rattle.base.proofs.Places.{tabulated, tabulate_length, map_at}
+use Rattle.words.specs.Bias.{bias, biased}
+use Rattle.words.specs.Word.{sign_bit}
+use Rattle.model.specs.declared.Bounds.{Bounds}
 use Rattle.zone.specs.Zone.{boxed}
-use Rattle.zone.specs.Uses.{NodeBounds, BoxRoom}
-use Rattle.solver.specs.Solver.{nodes, box_of}
-use Rattle.solver.specs.Lists.{bounds_of}
-use Rattle.solver.specs.Uses.{BoundsRoom}
-use Rattle.solver.proofs.Nodes.{nodes_size, box_bounded}
+use Rattle.zone.specs.Uses.{BoxRoom}
+use Rattle.solver.specs.Solver.{nodes, los, his, box_of}
+use Rattle.solver.specs.Uses.{Words, BoundsRoom}
+use Rattle.solver.proofs.Nodes.{nodes_size, nodes_at, box_bounded}
 
-pub bounds_length : (lo hi : List ℤ) → length hi ≡ length lo → length (bounds_of lo hi) ≡ length lo
-bounds_length [] hi e = refl
-bounds_length (a ∷ lo) [] e = absurd (omega arith)
-bounds_length (a ∷ lo) (b ∷ hi) e = ap (λ (n : ℕ). suc n) (bounds_length lo hi (omega arith))
+-- ---- The nodes of a list of values in the first places of an array of 33; those of the first k are there
 
-los_back : (lo hi : List ℤ) → length hi ≡ length lo → map (λ b. b.lo) (bounds_of lo hi) ≡ lo
-los_back [] hi e = refl
-los_back (a ∷ lo) [] e = absurd (omega arith)
-los_back (a ∷ lo) (b ∷ hi) e = ap (λ (r : List ℤ). a ∷ r) (los_back lo hi (omega arith))
+abbrev pub NodePass : List ℤ → ℕ → List ℕ → Type 0
+NodePass v k x = Pass (at (nodes v)) 0 (length v + 1) (k + 1) (replicate 33 bias) x
 
-his_back : (lo hi : List ℤ) → length hi ≡ length lo → map (λ b. b.hi) (bounds_of lo hi) ≡ hi
-his_back [] [] e = refl
-his_back [] (b ∷ hi) e = absurd (omega arith)
-his_back (a ∷ lo) [] e = absurd (omega arith)
-his_back (a ∷ lo) (b ∷ hi) e = ap (λ (r : List ℤ). b ∷ r) (his_back lo hi (omega arith))
+pub nodes_start : (v : List ℤ) → NodePass v 0 (replicate 33 bias)
+nodes_start v = pass_there (at (nodes v)) 0 (replicate 33 bias) 0 (omega arith) (λ j h. let e : j ≡ 0 = omega arith in rw e)
 
--- an array whose first places hold the nodes of some values
-module _ (v : Row) (n : ℕ) (size : length v + 1 ≡ n) (e rest : List ℕ) (is : e ≡ nodes v) where
-  pub part_is : take n (e ++ rest) ≡ nodes v
-  part_is = take_at e rest n (ap (λ (x : List ℕ). length x) is ∙ nodes_size v ∙ size) ∙ is
+pub nodes_turn : (v : List ℤ) {k n : ℕ} {x : List ℕ} → NodePass v k x → k < length v → n ≡ biased bias (get_or v k (pos 0))
+    → NodePass v (k + 1) (set x (k + 1) n)
+nodes_turn v {k} s more same = front_turn s (omega arith) (same ∙ sym (nodes_at v k more))
 
-  pub part_fits : n ≤ length (e ++ rest)
-  part_fits = omega (arith, length-append e rest, ap (λ (x : List ℕ). length x) is, nodes_size v)
+pub nodes_end : (v : List ℤ) {k n : ℕ} {x : List ℕ} → NodePass v k x → length v ≤ k → length v ≤ 32 → n ≡ length v → take (n + 1) x ≡ nodes v
+nodes_end v s past small size =
+    rw (size, pass_end s (omega arith), filled_front (at (nodes v)) (length v + 1) (replicate 33 bias) (omega arith))
+    (take_at _ _ _ (tabulate_length _ _) ∙ sym (tabulated (nodes v) (at (nodes v)) (length v + 1) 0 (nodes_size v) (λ i h. refl)))
 
-  pub part_size : n ≡ length (take n (e ++ rest))
-  part_size = omega (arith, ap (λ (x : List ℕ). length x) part_is, nodes_size v)
+-- ---- Bounds, with the first k of them done
 
-module _ (d : List ℕ) (lo hi : List ℤ) (u : BoundsRoom d lo hi) where
-  pub bounded : NodeBounds (nodes lo) (nodes hi)
-  bounded = rw (los_back lo hi u.same, his_back lo hi u.same) at (box_bounded (bounds_of lo hi) u.fit)
+pub record Laying (bs : List Bounds) (k : ℕ) (low high : List ℕ) : Type 0 where
+  pub lows : NodePass (los bs) k low
+  pub highs : NodePass (his bs) k high
+  pub low_words : (i : ℕ) → i < k → mag (get_or (los bs) i (pos 0)) < sign_bit 4
+  pub high_words : (i : ℕ) → i < k → mag (get_or (his bs) i (pos 0)) < sign_bit 4
 
-  pub box_room : BoxRoom d (nodes lo) (nodes hi)
-  box_room = record { room = omega (arith, nodes_size lo, u.room); small = omega (arith, nodes_size lo, u.small); bounds = bounded }
+pub laying_start : (bs : List Bounds) → Laying bs 0 (replicate 33 bias) (replicate 33 bias)
+laying_start bs = record {
+  lows = nodes_start (los bs);
+  highs = nodes_start (his bs);
+  low_words = λ i h. absurd (omega arith);
+  high_words = λ i h. absurd (omega arith);
+}
 
-  pub box_is : boxed (nodes lo) (nodes hi) ≡ box_of (bounds_of lo hi)
-  unfolding box_of
-  box_is = rw (los_back lo hi u.same, his_back lo hi u.same)
+module _ {bs : List Bounds} {k : ℕ} {low high : List ℕ} (s : Laying bs k low high) where
+  -- the bounds at place k are laid; d stands for what is past the end
+  module _ (d : Bounds) (more : k < length bs) where
+    abbrev b : Bounds
+    b = get_or bs k d
+
+    lo_at : get_or (los bs) k (pos 0) ≡ b.lo
+    lo_at = map_at (λ b. b.lo) bs k d (pos 0) more
+
+    hi_at : get_or (his bs) k (pos 0) ≡ b.hi
+    hi_at = map_at (λ b. b.hi) bs k d (pos 0) more
+
+    pub laying_turn : {m n : ℕ} → mag b.lo < sign_bit 4 → mag b.hi < sign_bit 4 → m ≡ biased bias b.lo → n ≡ biased bias b.hi
+        → Laying bs (k + 1) (set low (k + 1) m) (set high (k + 1) n)
+    laying_turn lo_word hi_word lo_same hi_same = record {
+      lows = nodes_turn (los bs) s.lows (omega (arith, length-map bs (λ (b : Bounds). b.lo))) (lo_same ∙ ap (biased bias) (sym lo_at));
+      highs = nodes_turn (his bs) s.highs (omega (arith, length-map bs (λ (b : Bounds). b.hi))) (hi_same ∙ ap (biased bias) (sym hi_at));
+      low_words = below_more (λ (i : ℕ). mag (get_or (los bs) i (pos 0)) < sign_bit 4) k s.low_words (rw lo_at lo_word);
+      high_words = below_more (λ (i : ℕ). mag (get_or (his bs) i (pos 0)) < sign_bit 4) k s.high_words (rw hi_at hi_word);
+    }
+
+  module _ {d : List ℕ} (u : BoundsRoom d bs) (past : length bs ≤ k) where
+    lo_size : length (los bs) ≡ length bs
+    lo_size = length-map bs (λ (b : Bounds). b.lo)
+
+    hi_size : length (his bs) ≡ length bs
+    hi_size = length-map bs (λ (b : Bounds). b.hi)
+
+    lows_are : take (length bs + 1) low ≡ nodes (los bs)
+    lows_are = nodes_end (los bs) s.lows (omega (arith, lo_size)) (omega (arith, lo_size, u.small)) (sym lo_size)
+
+    highs_are : take (length bs + 1) high ≡ nodes (his bs)
+    highs_are = nodes_end (his bs) s.highs (omega (arith, hi_size)) (omega (arith, hi_size, u.small)) (sym hi_size)
+
+    pub box_room : BoxRoom d (take (length bs + 1) low) (take (length bs + 1) high)
+    box_room = rw (lows_are, highs_are) record {
+      room = omega (arith, nodes_size (los bs), lo_size, u.room);
+      small = omega (arith, nodes_size (los bs), lo_size, u.small);
+      bounds = box_bounded bs u.fit;
+    }
+
+    pub box_is : boxed (take (length bs + 1) low) (take (length bs + 1) high) ≡ box_of bs
+    unfolding box_of
+    box_is = rw (lows_are, highs_are)
+
+    pub words_are : Words (los bs) × Words (his bs)
+    words_are = (
+      λ i h. s.low_words i (omega (arith, lo_size)),
+      λ i h. s.high_words i (omega (arith, hi_size)),
+    )

@@ -1,19 +1,19 @@
--- Comparisons as the code is given them: their nodes, what is added, and those of four lists. Assumes nothing.
+-- Comparisons as the code is given them: their nodes, what is added, and those of a list. Assumes nothing.
 use mathlib.Core.Path.{◌≡◌, refl}
-use mathlib.Core.List.{List}
+use mathlib.Core.List.{List, map}
 use Prim.Native.Nat.{ℕ, zero, suc, ◌+◌, ◌-◌, ◌*◌, ◌<◌, ◌≤◌}
 use native.Mathlib.Omega.{arith}
 use native.Mathlib.Numerals.{add-one}
-use lib.ListN.{length, get_or}
-use lib.IntN.{ℤ, pos}
+use lib.ListN.{length, get_or, length-map}
+use lib.IntN.{ℤ}
 use lib.Signed.{mag}
 use lib.Dec.{ltb, ltb→lt}
 use mir.Facts.{and_yes}
 use borrow.Author.Tests.{ne_eqb}
-use Rattle.base.specs.Lists.{at}
-use Rattle.base.proofs.Places.{tabulate_length, tabulate_at}
+use Rattle.base.proofs.Places.{map_at}
 use Rattle.words.specs.Word.{sign_bit}
 use Rattle.words.proofs.Biases.{biased_low, biased_high}
+use Rattle.words.specs.declared.Op.{Op}
 use Rattle.words.specs.Compare.{op_at}
 use Rattle.job.specs.declared.Comparison.{Comparison}
 use Rattle.job.specs.Record.{no_comparison}
@@ -21,7 +21,6 @@ use Rattle.job.specs.Meaning.{side_of, comparison_of}
 use Rattle.zone.specs.Zone.{Zone, level}
 use Rattle.solver.specs.Comparisons.{node_of, added_to, between, against, constraints_of, negations_of}
 use Rattle.solver.specs.Solver.{against_fits, imposed_by, imposed}
-use Rattle.solver.specs.Lists.{comparisons_of}
 use Rattle.solver.specs.Uses.{ImposesNodes, Imposes}
 use Rattle.solver.proofs.Comparisons.{added_some, added_most}
 use Rattle.solver.proofs.Solver.{node_in}
@@ -37,14 +36,14 @@ pub word_added : (r : ℕ) (v : ℤ) → mag v < sign_bit 4 → (0 < added_to (s
 word_added zero v h = (omega (arith, biased_low level (sign_bit 4) v h), omega (arith, biased_high level (sign_bit 4) v h))
 word_added (suc r) v h = rw (ne_eqb (suc r) 0 (λ e. omega arith)) (omega arith, omega arith)
 
-module _ (k : Comparison) {a b w : ℕ} (p : a ≡ k.left) (q : b ≡ k.right) (r : w ≡ added_to (side_of k.right k.number)) where
-  pub negations_are : against (op_at k.op) (a + 1) b w ≡ negations_of (comparison_of k)
+module _ (k : Comparison) {o : Op} {a b w : ℕ} (s : o ≡ op_at k.op) (p : a ≡ k.left) (q : b ≡ k.right) (r : w ≡ added_to (side_of k.right k.number)) where
+  pub negations_are : against o (a + 1) b w ≡ negations_of (comparison_of k)
   unfolding negations_of
-  negations_are = rw (p, q, r, side_node k.right k.number, add-one k.left)
+  negations_are = rw (s, p, q, r, side_node k.right k.number, add-one k.left)
 
-  pub imposed_is : (z : Zone) → imposed_by z (between (op_at k.op) (a + 1) b w) ≡ imposed z (comparison_of k)
+  pub imposed_is : (z : Zone) → imposed_by z (between o (a + 1) b w) ≡ imposed z (comparison_of k)
   unfolding imposed constraints_of
-  imposed_is z = rw (p, q, r, side_node k.right k.number, add-one k.left)
+  imposed_is z = rw (s, p, q, r, side_node k.right k.number, add-one k.left)
 
   pub nodes_asked : {n : ℕ} {d : List ℕ} → Imposes n d k → ImposesNodes (n + 1) d (a + 1) b w
   nodes_asked {n} u =
@@ -58,17 +57,12 @@ module _ (k : Comparison) {a b w : ℕ} (p : a ≡ k.left) (q : b ≡ k.right) (
         added_most = rw r (added_most n side t);
       }
 
--- ---- those of four lists
-module _ (ops lefts rights : List ℕ) (numbers : List ℤ) where
-  list_length : length (comparisons_of ops lefts rights numbers) ≡ length ops
-  unfolding comparisons_of
-  list_length = tabulate_length (length ops) _
+-- ---- those of a list
 
-  pub list_done : {k : ℕ} → length ops ≤ k → length (comparisons_of ops lefts rights numbers) ≤ k
-  list_done h = omega (arith, list_length)
+module _ (list : List Comparison) where
+  pub list_done : {k : ℕ} → length list ≤ k → length (map comparison_of list) ≤ k
+  list_done h = omega (arith, length-map list comparison_of)
 
-  -- the next of them; v is its number as the code reads it
-  pub list_next : {k : ℕ} {v : ℤ} → k < length ops → v ≡ get_or numbers k (pos 0)
-      → Next (comparisons_of ops lefts rights numbers) k (comparison_of (record { op = at ops k; left = at lefts k; right = at rights k; number = v }))
-  unfolding comparisons_of
-  list_next {k} h is = (omega (arith, list_length), rw is (tabulate_at (length ops) _ k (comparison_of no_comparison) h))
+  -- the next of them; d stands for what is past the end
+  pub list_next : (d : Comparison) {k : ℕ} → k < length list → Next (map comparison_of list) k (comparison_of (get_or list k d))
+  list_next d {k} h = (omega (arith, length-map list comparison_of), map_at comparison_of list k d (comparison_of no_comparison) h)

@@ -1,12 +1,12 @@
 -- From the zone of a list to the row that is written. Assumes nothing.
 use mathlib.Core.Path.{◌≡◌, refl, sym, ap, ◌∙◌}
 use mathlib.Core.Bool.{Bool, true, false, false≢true}
-use mathlib.Core.List.{List, [], ◌∷◌}
+use mathlib.Core.List.{List, [], ◌∷◌, map}
 use mathlib.Core.Option.{Option, none, some, none-ne-some, some-injective}
 use Prim.Native.Nat.{ℕ, suc, ◌+◌, ◌*◌, ◌<◌, ◌≤◌}
 use native.Mathlib.Omega.{arith}
 use native.Mathlib.Numerals.{add-one}
-use lib.ListN.{length, get_or, replicate}
+use lib.ListN.{length, get_or, replicate, length-map}
 use lib.IntN.{ℤ, pos}
 use lib.Dec.{T}
 use mir.Facts.{yes_and}
@@ -16,6 +16,8 @@ use Rattle.words.specs.Bias.{bias}
 use Rattle.words.specs.Word.{sign_bit}
 use Rattle.words.proofs.Biases.{biased_low, biased_high}
 use Rattle.model.specs.Tables.{Comparison}
+use Rattle.job.specs.declared.Comparison as given
+use Rattle.job.specs.Meaning.{comparison_of}
 use Rattle.model.specs.declared.Bounds.{Bounds}
 use Rattle.model.specs.Least.{least_row}
 use Rattle.zone.specs.Zone.{Zone, Closed, least_of}
@@ -25,11 +27,10 @@ use Rattle.zone.proofs.Closed.{least_length, least_meets}
 use Rattle.zone.proofs.Box.{Between, box_rows_lem}
 use Rattle.zone.proofs.Answers.{Answers}
 use Rattle.zone.proofs.Laid.{laid_is, laid_in_array}
-use Rattle.solver.specs.Solver.{bounds_fit, comparison_fits, solvable, nodes, row_of, box_of, imposed, imposed_all, zone_of, solution}
-use Rattle.solver.specs.Lists.{bounds_of, comparisons_of, onward, reached, row_or_zeros}
-use Rattle.solver.specs.Uses.{Words, WordNodes, BoundsRoom, ImposesAll, LeastRoom, Solves}
-use Rattle.solver.proofs.Nodes.{nodes_size, nodes_at, nodes_length, nodes_closed}
-use Rattle.solver.proofs.Bounds.{bounds_length, bounded, box_is}
+use Rattle.solver.specs.Solver.{bounds_fit, comparison_fits, solvable, nodes, row_of, los, his, box_of, imposed, imposed_all, zone_of, solution}
+use Rattle.solver.specs.Lists.{onward, reached, row_or_zeros}
+use Rattle.solver.specs.Uses.{Words, WordNodes, ImposesAll, LeastRoom, Solves}
+use Rattle.solver.proofs.Nodes.{nodes_size, nodes_at, nodes_length, nodes_closed, box_bounded}
 use Rattle.solver.proofs.Solver.{ObeysList, zone_answers, solution_least}
 
 -- where some row meets the list, the zone that is reached is the list's
@@ -42,34 +43,31 @@ reached_is z (k ∷ ks) y e = go (imposed z k) e (λ w q. reached_is w ks y q)
     go none e next = absurd (none-ne-some y e)
     go (some w) e next = next w e
 
-module _ (lo hi : List ℤ) (op left right : List ℕ) (numbers row : List ℤ) (u : Solves lo hi op left right numbers row)
-    (d : List ℕ) (room : (length lo + 1) * 33 ≤ length d) (e : List ℕ) (boxed : e ≡ laid d (box_of (bounds_of lo hi))) where
-  abbrev bs : List Bounds
-  bs = bounds_of lo hi
-
+module _ (bs : List Bounds) (list : List given.Comparison) (row : List ℤ) (u : Solves bs list row)
+    (d : List ℕ) (room : (length bs + 1) * 33 ≤ length d) (e : List ℕ) (boxed : e ≡ laid d (box_of bs)) where
   abbrev ks : List Comparison
-  ks = comparisons_of op left right numbers
+  ks = map comparison_of list
 
   ok : T (solvable bs ks)
   unfolding solvable
-  ok = yes_and (all_of bounds_fit bs) (all_of (comparison_fits (length bs)) ks) u.bounds (rw (bounds_length lo hi u.same) u.listed.fit)
+  ok = yes_and (all_of bounds_fit bs) (all_of (comparison_fits (length bs)) ks) u.bounds u.fit
 
-  size : length (box_of bs) ≡ length lo + 1
-  size = nodes_length bs u.bounds ∙ ap (λ (n : ℕ). suc n) (bounds_length lo hi u.same) ∙ sym (add-one (length lo))
+  size : length (box_of bs) ≡ length bs + 1
+  size = nodes_length bs u.bounds ∙ sym (add-one (length bs))
 
-  small : length lo + 1 ≤ 33
+  small : length bs + 1 ≤ 33
   small = omega (arith, u.small)
 
-  box_in_array : InArray (length lo + 1) e
-  box_in_array = rw boxed (laid_in_array (length lo + 1) d (box_of bs) room small (nodes_closed bs u.bounds) size)
+  box_in_array : InArray (length bs + 1) e
+  box_in_array = rw boxed (laid_in_array (length bs + 1) d (box_of bs) room small (nodes_closed bs u.bounds) size)
 
-  box_zone : zone_in (length lo + 1) e ≡ box_of bs
-  box_zone = rw boxed (laid_is (length lo + 1) d (box_of bs) room small (nodes_closed bs u.bounds) size)
+  box_zone : zone_in (length bs + 1) e ≡ box_of bs
+  box_zone = rw boxed (laid_is (length bs + 1) d (box_of bs) room small (nodes_closed bs u.bounds) size)
 
-  pub imposes : ImposesAll (length lo) e op left right numbers
-  imposes = record { in_array = box_in_array; listed = u.listed }
+  pub imposes : ImposesAll (length bs) e list
+  imposes = record { in_array = box_in_array; fit = u.fit }
 
-  zone_all : imposed_all (zone_in (length lo + 1) e) ks ≡ zone_of bs ks
+  zone_all : imposed_all (zone_in (length bs + 1) e) ks ≡ zone_of bs ks
   unfolding zone_of
   zone_all = rw box_zone
 
@@ -79,10 +77,10 @@ module _ (lo hi : List ℤ) (op left right : List ℕ) (numbers row : List ℤ) 
 
   -- what is answered, and written
   abbrev pub Written : Bool → List ℤ → Type 0
-  Written r x = (r ≡ is_some (least_row bs ks)) × (x ≡ row_or_zeros (length lo) (least_row bs ks))
+  Written r x = (r ≡ is_some (least_row bs ks)) × (x ≡ row_or_zeros (length bs) (least_row bs ks))
 
   -- no row meets the list
-  pub none_written : is_some (imposed_all (zone_in (length lo + 1) e) ks) ≡ false → (x : List ℤ) → x ≡ replicate (length row) (pos 0) → Written false x
+  pub none_written : is_some (imposed_all (zone_in (length bs + 1) e) ks) ≡ false → (x : List ℤ) → x ≡ replicate (length row) (pos 0) → Written false x
   none_written f x z = go (zone_of bs ks) refl
     where
       go : (o : Option Zone) → zone_of bs ks ≡ o → Written false x
@@ -90,8 +88,8 @@ module _ (lo hi : List ℤ) (op left right : List ℕ) (numbers row : List ℤ) 
       go none q = rw (least_is none q) (refl, z ∙ rw u.room)
 
   -- some row meets it
-  module _ (f : is_some (imposed_all (zone_in (length lo + 1) e) ks) ≡ true) (g : List ℕ)
-      (left_over : g ≡ laid e (reached (zone_in (length lo + 1) e) ks)) where
+  module _ (f : is_some (imposed_all (zone_in (length bs + 1) e) ks) ≡ true) (g : List ℕ)
+      (left_over : g ≡ laid e (reached (zone_in (length bs + 1) e) ks)) where
     some_zone : (y : Zone) × (zone_of bs ks ≡ some y) × Answers (box_of bs) (ObeysList ks) (some y)
     some_zone = go (zone_of bs ks) refl (zone_answers bs ks ok)
       where
@@ -106,42 +104,48 @@ module _ (lo hi : List ℤ) (op left right : List ℕ) (numbers row : List ℤ) 
     closed : Closed y
     closed = some_zone.2.0
 
-    y_size : length y ≡ length lo + 1
+    y_size : length y ≡ length bs + 1
     y_size = some_zone.2.1 ∙ size
 
     laid_y : g ≡ laid e y
-    laid_y = left_over ∙ ap (laid e) (reached_is (zone_in (length lo + 1) e) ks y (zone_all ∙ some_zone.1))
+    laid_y = left_over ∙ ap (laid e) (reached_is (zone_in (length bs + 1) e) ks y (zone_all ∙ some_zone.1))
 
     in_array : InArray (length row + 1) g
-    in_array = rw (u.room, laid_y) (laid_in_array (length lo + 1) e y box_in_array.room small closed y_size)
+    in_array = rw (u.room, laid_y) (laid_in_array (length bs + 1) e y box_in_array.room small closed y_size)
 
     zone_y : zone_in (length row + 1) g ≡ y
     zone_y =
         ap (λ (k : ℕ). zone_in (k + 1) g) u.room
-        ∙ ap (zone_in (length lo + 1)) laid_y
-        ∙ laid_is (length lo + 1) e y box_in_array.room small closed y_size
+        ∙ ap (zone_in (length bs + 1)) laid_y
+        ∙ laid_is (length bs + 1) e y box_in_array.room small closed y_size
 
     -- its values lie between the bounds, which are of 32 bits
-    between : Between (nodes lo) (nodes hi) (least_of y)
+    between : Between (nodes (los bs)) (nodes (his bs)) (least_of y)
+    unfolding box_of
     between =
-        let asked : BoundsRoom d lo hi = record { room = room; same = u.same; small = u.small; fit = u.bounds } in
-        (box_rows_lem (nodes lo) (nodes hi) (bounded d lo hi asked) (least_of y)).0
-        (rw (box_is d lo hi asked) ((some_zone.2.2 (least_of y)).0 (least_meets y closed)).0)
+        (box_rows_lem (nodes (los bs)) (nodes (his bs)) (box_bounded bs u.bounds) (least_of y)).0
+        ((some_zone.2.2 (least_of y)).0 (least_meets y closed)).0
 
-    words : Words lo → Words hi → WordNodes (least_of y) row
+    lo_size : length (los bs) ≡ length bs
+    lo_size = length-map bs (λ (b : Bounds). b.lo)
+
+    hi_size : length (his bs) ≡ length bs
+    hi_size = length-map bs (λ (b : Bounds). b.hi)
+
+    words : Words (los bs) → Words (his bs) → WordNodes (least_of y) row
     words wl wh = record {
       size = least_length y closed ∙ y_size ∙ ap (λ (n : ℕ). n + 1) (sym u.room);
       low = λ i h.
-          let l : i < length lo = omega (arith, u.room) in
-          let a = rw (add-one i) at (nodes_at lo i l) in
-          omega (arith, a, between.above (suc i) (omega (arith, nodes_size lo)), biased_low bias (sign_bit 4) (get_or lo i (pos 0)) (wl i l));
+          let l : i < length (los bs) = omega (arith, u.room, lo_size) in
+          let a = rw (add-one i) at (nodes_at (los bs) i l) in
+          omega (arith, a, between.above (suc i) (omega (arith, nodes_size (los bs), lo_size, u.room)), biased_low bias (sign_bit 4) (get_or (los bs) i (pos 0)) (wl i l));
       high = λ i h.
-          let l : i < length hi = omega (arith, u.room, u.same) in
-          let a = rw (add-one i) at (nodes_at hi i l) in
-          omega (arith, a, between.below (suc i) (omega (arith, nodes_size lo, u.room)), biased_high bias (sign_bit 4) (get_or hi i (pos 0)) (wh i l));
+          let l : i < length (his bs) = omega (arith, u.room, hi_size) in
+          let a = rw (add-one i) at (nodes_at (his bs) i l) in
+          omega (arith, a, between.below (suc i) (omega (arith, nodes_size (los bs), lo_size, u.room)), biased_high bias (sign_bit 4) (get_or (his bs) i (pos 0)) (wh i l));
     }
 
-    pub least_room : Words lo → Words hi → LeastRoom g row
+    pub least_room : Words (los bs) → Words (his bs) → LeastRoom g row
     least_room wl wh = record { in_array = in_array; words = rw zone_y (words wl wh) }
 
     pub row_written : (x : List ℤ) → x ≡ row_of (least_of (zone_in (length row + 1) g)) → Written true x

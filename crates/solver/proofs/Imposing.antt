@@ -1,6 +1,7 @@
 -- Comparisons imposed one after the other, and "equal" as two constraints. Assumes nothing.
-use mathlib.Core.Path.{◌≡◌, refl, sym, ap, ◌∙◌}
+use mathlib.Core.Path.{◌≡◌, refl, sym, ◌∙◌}
 use mathlib.Core.Bool.{Bool, true, false, cond, false≢true}
+use Rattle.std.specs.Prelude.{Some, None}
 use mathlib.Core.List.{List, [], ◌∷◌}
 use mathlib.Core.Option.{Option, none, some}
 use Prim.Native.Nat.{ℕ, ◌-◌, ◌*◌, ◌<◌, ◌≤◌}
@@ -22,7 +23,7 @@ use Rattle.words.specs.declared.Op.{Op}
 use Rattle.words.specs.declared.Op.TheVariants.{Less, AtMost, Equal, AtLeast, More}
 use Rattle.model.specs.Tables.{Comparison}
 use Rattle.solver.specs.declared.Constraints.{Constraints}
-use Rattle.solver.specs.Comparisons.{at_most_by, both, between}
+use Rattle.solver.specs.Comparisons.{at_most_by, between}
 use Rattle.solver.specs.Uses.{ImposesNodes}
 use Rattle.solver.specs.Solver.{constrained_by, imposed_by, imposed, imposed_all}
 use Rattle.solver.specs.Lists.{onward, reached}
@@ -75,54 +76,54 @@ some_allows z c = go (allows z c)
 abbrev Within : ℕ → Constraint → Type 0
 Within n c = (c.left < n) × (c.right < n) × (c.most ≤ 2 * level)
 
-between_within : (n : ℕ) (o : Op) (a b w : ℕ) → a < n → b < n → 0 < w → w < 2 * level
-    → Within n (between o a b w).first × Within n (between o a b w).second
-between_within n Less a b w l r s m = ((l, r, omega arith), (l, r, omega arith))
-between_within n AtMost a b w l r s m = ((l, r, omega arith), (l, r, omega arith))
-between_within n Equal a b w l r s m = ((l, r, omega arith), (r, l, omega arith))
-between_within n AtLeast a b w l r s m = ((r, l, omega arith), (r, l, omega arith))
-between_within n More a b w l r s m = ((r, l, omega arith), (r, l, omega arith))
+between_within : (n : ℕ) (o : Op) (a b w : ℕ) → a < n → b < n → 0 < w → w < 2 * level → Within n (between o a b w).first
+between_within n Less a b w l r s m = (l, r, omega arith)
+between_within n AtMost a b w l r s m = (l, r, omega arith)
+between_within n Equal a b w l r s m = (l, r, omega arith)
+between_within n AtLeast a b w l r s m = (r, l, omega arith)
+between_within n More a b w l r s m = (r, l, omega arith)
 
 -- two constraints are those of "equal"
-between_two : (o : Op) (a b w : ℕ) → (between o a b w).two ≡ true → between o a b w ≡ both (at_most_by a b w) (at_most_by b a (2 * level - w))
-between_two Less a b w t = absurd (false≢true t)
-between_two AtMost a b w t = absurd (false≢true t)
-between_two Equal a b w t = refl
-between_two AtLeast a b w t = absurd (false≢true t)
-between_two More a b w t = absurd (false≢true t)
+between_two : (o : Op) (a b w : ℕ) {c : Constraint} → (between o a b w).second ≡ Some c
+    → ((between o a b w).first ≡ at_most_by a b w) × (c ≡ at_most_by b a (2 * level - w))
+between_two Less a b w t = absurd (cc)
+between_two AtMost a b w t = absurd (cc)
+between_two Equal a b w t = (refl, cc)
+between_two AtLeast a b w t = absurd (cc)
+between_two More a b w t = absurd (cc)
 
 module _ (n : ℕ) (d : List ℕ) (o : Op) (a b w : ℕ) (u : ImposesNodes n d a b w) (p : Constraints) (e : p ≡ between o a b w) where
   abbrev z : Zone
   z = zone_in n d
 
-  parts : Within n p.first × Within n p.second
-  parts = rw e (between_within n o a b w u.left_in u.right_in u.added_some u.added_most)
+  first_within : Within n p.first
+  first_within = rw e (between_within n o a b w u.left_in u.right_in u.added_some u.added_most)
 
   pub first_constrains : Constrains n d p.first
-  first_constrains = let (l, r, m) = parts.0 in record { in_array = u.in_array; left_in = l; right_in = r; most_fits = m }
-
-  pub second_constrains : Constrains n d p.second
-  second_constrains = let (l, r, m) = parts.1 in record { in_array = u.in_array; left_in = l; right_in = r; most_fits = m }
+  first_constrains = let (l, r, m) = first_within in record { in_array = u.in_array; left_in = l; right_in = r; most_fits = m }
 
   -- what is answered, and left in the array
   abbrev pub Outcome : Bool → List ℕ → Type 0
   Outcome r x = (r ≡ is_some (imposed_by z (between o a b w))) × (x ≡ laid d (kept z (imposed_by z (between o a b w))))
 
   -- with one constraint
-  pub one_outcome : p.two ≡ false → (r : Bool) (x : List ℕ) → r ≡ allows z p.first → x ≡ laid d (kept z (constrained z p.first)) → Outcome r x
+  pub one_outcome : p.second ≡ None → (r : Bool) (x : List ℕ) → r ≡ allows z p.first → x ≡ laid d (kept z (constrained z p.first)) → Outcome r x
   unfolding imposed_by
   one_outcome t r x f g =
       let by : imposed_by z p ≡ constrained z p.first = rw t (then_itself (constrained z p.first)) in
       rw (← e, by) (f ∙ sym (some_allows z p.first), g)
 
   -- with two
-  module _ (t : p.two ≡ true) where
+  module _ {c : Constraint} (t : p.second ≡ Some c) where
     -- those of "equal"
-    is_there : p.first ≡ at_most_by a b w
-    is_there = ap (λ (q : Constraints). q.first) (e ∙ between_two o a b w (rw e at t))
+    equal : (p.first ≡ at_most_by a b w) × (c ≡ at_most_by b a (2 * level - w))
+    equal = rw e (between_two o a b w (rw e at t))
 
-    is_back : p.second ≡ at_most_by b a (2 * level - w)
-    is_back = ap (λ (q : Constraints). q.second) (e ∙ between_two o a b w (rw e at t))
+    second_within : Within n c
+    second_within = rw equal.1 (u.right_in, u.left_in, omega arith)
+
+    pub second_constrains : Constrains n d c
+    second_constrains = let (l, r, m) = second_within in record { in_array = u.in_array; left_in = l; right_in = r; most_fits = m }
 
     node : (i : ℕ) → i < n → i < length z
     node i h = omega (arith, zone_length n d)
@@ -130,25 +131,27 @@ module _ (n : ℕ) (d : List ℕ) (o : Op) (a b w : ℕ) (u : ImposesNodes n d a
     cl : Closed z
     cl = u.in_array.closed
 
-    none_outcome : constrained_by z (p.first ∷ p.second ∷ []) ≡ none → Outcome false d
+    none_outcome : constrained_by z (p.first ∷ c ∷ []) ≡ none → Outcome false d
     unfolding imposed_by
     none_outcome q =
         let by : imposed_by z p ≡ none = rw t q in
         rw (← e, by) (refl, sym (laid_zone n d u.in_array.small))
 
     -- of which the second can't be met
-    pub second_outcome : allows z p.second ≡ false → Outcome false d
+    pub second_outcome : allows z c ≡ false → Outcome false d
     second_outcome q =
-        let ((fl, fr, _), (sl, sr, _)) = parts in
-        none_outcome (pair_none z p.first p.second cl (node _ fl) (node _ fr) (node _ sl) (node _ sr) q)
+        let (fl, fr, _) = first_within in
+        let (sl, sr, _) = second_within in
+        none_outcome (pair_none z p.first c cl (node _ fl) (node _ fr) (node _ sl) (node _ sr) q)
 
     -- or the first
     pub first_outcome : allows z p.first ≡ false → (x : List ℕ) → x ≡ laid d (kept z (constrained z p.first)) → Outcome false x
     unfolding constrained
     first_outcome q x g =
-        let ((fl, fr, _), (sl, sr, _)) = parts in
+        let (fl, fr, _) = first_within in
+        let (sl, sr, _) = second_within in
         let old : x ≡ d = g ∙ rw q (laid_zone n d u.in_array.small) in
-        rw old (none_outcome (pair_first z p.first p.second cl (node _ fl) (node _ fr) (node _ sl) (node _ sr) q))
+        rw old (none_outcome (pair_first z p.first c cl (node _ fl) (node _ fr) (node _ sl) (node _ sr) q))
 
     -- or each of which can
     module _ (f : allows z p.first ≡ true) (x : List ℕ) (g : x ≡ laid d (kept z (constrained z p.first))) where
@@ -157,17 +160,17 @@ module _ (n : ℕ) (d : List ℕ) (o : Op) (a b w : ℕ) (u : ImposesNodes n d a
       tight = g ∙ rw f
 
       tight_is_closed : Closed (tightened z p.first)
-      tight_is_closed = let (fl, fr, _) = parts.0 in tight_closed z p.first cl (node _ fl) (node _ fr) (rw f tt)
+      tight_is_closed = let (fl, fr, _) = first_within in tight_closed z p.first cl (node _ fl) (node _ fr) (rw f tt)
 
       tight_size : length (tightened z p.first) ≡ n
-      tight_size = let (fl, fr, _) = parts.0 in tight_length z p.first cl (node _ fl) (node _ fr) (rw f tt) ∙ zone_length n d
+      tight_size = let (fl, fr, _) = first_within in tight_length z p.first cl (node _ fl) (node _ fr) (rw f tt) ∙ zone_length n d
 
       zone_is : zone_in n x ≡ tightened z p.first
       zone_is = rw tight (laid_is n d (tightened z p.first) u.in_array.room u.in_array.small tight_is_closed tight_size)
 
-      pub next_constrains : Constrains n x p.second
+      pub next_constrains : Constrains n x c
       next_constrains =
-          let (l, r, m) = parts.1 in
+          let (l, r, m) = second_within in
           record {
             in_array = rw tight (laid_in_array n d (tightened z p.first) u.in_array.room u.in_array.small tight_is_closed tight_size);
             left_in = l;
@@ -175,28 +178,28 @@ module _ (n : ℕ) (d : List ℕ) (o : Op) (a b w : ℕ) (u : ImposesNodes n d a
             most_fits = m;
           }
 
-      both_allowed : allows z p.second ≡ true → T (allows (tightened z p.first) p.second)
+      both_allowed : allows z c ≡ true → T (allows (tightened z p.first) c)
       both_allowed s =
-          rw (is_there, is_back)
+          rw (equal.0, equal.1)
           (back_allowed z a b w cl (node a u.left_in) (node b u.right_in) (omega (arith, u.added_most))
-          (let q : T (allows z p.first) = rw f tt in rw is_there at q)
-          (let q : T (allows z p.second) = rw s tt in rw is_back at q))
+          (let q : T (allows z p.first) = rw f tt in rw equal.0 at q)
+          (let q : T (allows z c) = rw s tt in rw equal.1 at q))
 
-      last_size : T (allows (tightened z p.first) p.second) → length (tightened (tightened z p.first) p.second) ≡ n
+      last_size : T (allows (tightened z p.first) c) → length (tightened (tightened z p.first) c) ≡ n
       last_size ok =
-          let (l, r, _) = parts.1 in
-          tight_length (tightened z p.first) p.second tight_is_closed (omega (arith, tight_size)) (omega (arith, tight_size)) ok ∙ tight_size
+          let (l, r, _) = second_within in
+          tight_length (tightened z p.first) c tight_is_closed (omega (arith, tight_size)) (omega (arith, tight_size)) ok ∙ tight_size
 
-      again : T (allows (tightened z p.first) p.second)
-          → laid (laid d (tightened z p.first)) (tightened (tightened z p.first) p.second) ≡ laid d (tightened (tightened z p.first) p.second)
-      again ok = laid_laid d (tightened z p.first) (tightened (tightened z p.first) p.second) (omega (arith, last_size ok, u.in_array.small)) (tight_size ∙ sym (last_size ok))
+      again : T (allows (tightened z p.first) c)
+          → laid (laid d (tightened z p.first)) (tightened (tightened z p.first) c) ≡ laid d (tightened (tightened z p.first) c)
+      again ok = laid_laid d (tightened z p.first) (tightened (tightened z p.first) c) (omega (arith, last_size ok, u.in_array.small)) (tight_size ∙ sym (last_size ok))
 
-      pub both_outcome : allows z p.second ≡ true → (r : Bool) (y : List ℕ) → r ≡ allows (zone_in n x) p.second
-          → y ≡ laid x (kept (zone_in n x) (constrained (zone_in n x) p.second)) → Outcome r y
+      pub both_outcome : allows z c ≡ true → (r : Bool) (y : List ℕ) → r ≡ allows (zone_in n x) c
+          → y ≡ laid x (kept (zone_in n x) (constrained (zone_in n x) c)) → Outcome r y
       unfolding imposed_by constrained
       both_outcome s r y h k =
-          let ok : allows (tightened z p.first) p.second ≡ true = T-is _ (both_allowed s) in
-          let by : imposed_by z p ≡ some (tightened (tightened z p.first) p.second) = rw (t, f, ok) in
+          let ok : allows (tightened z p.first) c ≡ true = T-is _ (both_allowed s) in
+          let by : imposed_by z p ≡ some (tightened (tightened z p.first) c) = rw (t, f, ok) in
           rw (← e, by) (h ∙ rw (zone_is, ok), k ∙ rw (zone_is, ok, tight) (again (both_allowed s)))
 
 -- ---- a list, one comparison at a time

@@ -20,7 +20,7 @@ use Rattle.model.specs.declared.Bounds.{Bounds}
 use Rattle.zone.specs.Zone.{Meets, Closed}
 use Rattle.zone.specs.Uses.{NodeBounds}
 use Rattle.zone.proofs.Box.{box_length, box_closed, box_rows_lem}
-use Rattle.solver.specs.Solver.{fits, bounds_fit, nodes, row_of, box_of}
+use Rattle.solver.specs.Solver.{fits, bounds_fit, nodes, row_of, los, his, box_of}
 
 -- ---- values that fit
 pub low_from : (v : ℤ) → T (le_z (negsuc 999999999999999) v) → FromBias bias v
@@ -74,12 +74,6 @@ module _ (b : Bounds) (fit : T (bounds_fit b)) where
       (rw (biased_le bias v b.hi g (fit_from b.hi h)) (le→leb (biased bias v) (biased bias b.hi) (omega (arith, e))))
 
 -- ---- rows within bounds
-abbrev los : List Bounds → List ℤ
-los bs = map (λ b. b.lo) bs
-
-abbrev his : List Bounds → List ℤ
-his bs = map (λ b. b.hi) bs
-
 -- how a column's bounds and value stand to each other, as nodes
 abbrev Column : List Bounds → List ℕ → ℕ → Type 0
 Column bs x i = (at (map (biased bias) (los bs)) i ≤ at x i) × (at x i ≤ at (map (biased bias) (his bs)) i)

@@ -1,6 +1,6 @@
 -- A list of comparisons, imposed one after the other on the zone in an array. Assumes nothing.
 use mathlib.Core.Path.{◌≡◌, refl, sym, ap, ◌∙◌}
-use mathlib.Core.Bool.{Bool, true, false, not, false≢true}
+use mathlib.Core.Bool.{Bool, true, false, false≢true}
 use mathlib.Core.List.{List, [], ◌∷◌}
 use mathlib.Core.Option.{Option, none, some}
 use Prim.Native.Nat.{ℕ, ◌+◌, ◌<◌, ◌≤◌}
@@ -9,7 +9,6 @@ use native.Mathlib.Numerals.{add-one}
 use lib.ListN.{length, get_or, drop, drop_of_length-le}
 use lib.Seq.{drop-cons}
 use lib.Dec.{T}
-use borrow.Author.Tests.{not-true, not-false}
 use Rattle.solver.specs.Obeying.{ObeysAll}
 use Rattle.base.proofs.Places.{all_at}
 use Rattle.base.specs.Lists.{all_of}
@@ -71,9 +70,9 @@ module _ {n : ℕ} {ks : List Comparison} {first : List ℕ} {k : ℕ} {d : List
     next_fits t = rw next.1 at (all_at (comparison_fits n) ks k (comparison_of no_comparison) t next.0)
 
     module _ {r : Bool} {x : List ℕ} (done : (r ≡ is_some (imposed z q)) × (x ≡ laid d (kept z (imposed z q)))) where
-      pub stops : not r ≡ true → Ends n ks first false x
+      pub stops : r ≡ false → Ends n ks first false x
       stops s =
-          let (a, b, c) = all_stop z z q (drop (k + 1) ks) (sym done.0 ∙ not-true r s) in
+          let (a, b, c) = all_stop z z q (drop (k + 1) ks) (sym done.0 ∙ s) in
           let old : x ≡ d = done.1 ∙ rw c (laid_zone (n + 1) d p.in_array.small) in
           let answer : none ≡ imposed_all (zone_in (n + 1) first) ks = sym a ∙ (rw still at p.answer) in
           let end : z ≡ reached (zone_in (n + 1) first) ks = sym b ∙ (rw still at p.end) in
@@ -82,11 +81,11 @@ module _ {n : ℕ} {ks : List Comparison} {first : List ℕ} {k : ℕ} {d : List
       pub still_length : length x ≡ length first
       still_length = ap length done.1 ∙ laid_length d (kept z (imposed z q)) ∙ kept_length
 
-      pub goes_on : T (all_of (comparison_fits n) ks) → not r ≡ false → Progress n ks first (k + 1) x
+      pub goes_on : T (all_of (comparison_fits n) ks) → r ≡ true → Progress n ks first (k + 1) x
       goes_on t s = go (imposed z q) refl (imposed_answers n z q p.in_array.closed (zone_length (n + 1) d ∙ add-one n) (next_fits t))
         where
           some_left : is_some (imposed z q) ≡ true
-          some_left = sym done.0 ∙ not-false r s
+          some_left = sym done.0 ∙ s
 
           rest_of : (y : Zone) → length y ≡ n + 1 → laid first y ≡ laid d y
           rest_of y same =

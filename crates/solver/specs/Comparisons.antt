@@ -1,5 +1,5 @@
 -- Comparisons as constraints on nodes: column c is node c + 1, and a number is that much more than node 0.
-use Rattle.std.specs.Prelude.{true, false, cond, List, [], ◌∷◌, ℕ, suc, ◌-◌, ◌*◌}
+use Rattle.std.specs.Prelude.{List, [], ◌∷◌, ℕ, suc, ◌-◌, ◌*◌, Option, Some, None}
 use Rattle.words.specs.Bias.{biased}
 use Rattle.words.specs.declared.Op.{Op}
 use Rattle.words.specs.declared.Op.TheVariants.{Less, AtMost, Equal, AtLeast, More}
@@ -22,13 +22,17 @@ abbrev pub at_most_by : ℕ → ℕ → ℕ → Constraint
 at_most_by a b w = record { left = a; right = b; most = w }
 
 abbrev pub one : Constraint → Constraints
-one c = record { two = false; first = c; second = c }
+one c = record { first = c; second = None }
 
 abbrev pub both : Constraint → Constraint → Constraints
-both c e = record { two = true; first = c; second = e }
+both c e = record { first = c; second = Some e }
+
+abbrev pub if_second : Option Constraint → List Constraint
+if_second None = []
+if_second (Some c) = c ∷ []
 
 abbrev pub list_of : Constraints → List Constraint
-list_of p = cond p.two (p.first ∷ p.second ∷ []) (p.first ∷ [])
+list_of p = p.first ∷ if_second p.second
 
 -- node a compared by op with node b and what is added to it
 abbrev pub between : Op → ℕ → ℕ → ℕ → Constraints

@@ -42,8 +42,15 @@ nodes r = bias ∷ map (biased bias) r
 abbrev pub row_of : List ℕ → Row
 row_of x = map (unbiased bias) (drop 1 x)
 
+-- the least values of some bounds, and the greatest
+abbrev pub los : List Bounds → List ℤ
+los bs = map (λ b. b.lo) bs
+
+abbrev pub his : List Bounds → List ℤ
+his bs = map (λ b. b.hi) bs
+
 unfoldable pub box_of : List Bounds → Zone
-box_of bs = boxed (nodes (map (λ b. b.lo) bs)) (nodes (map (λ b. b.hi) bs))
+box_of bs = boxed (nodes (los bs)) (nodes (his bs))
 
 -- with some constraints more, one after the other
 abbrev pub constrained_by : Zone → List Constraint → Option Zone

@@ -1,16 +1,16 @@
 -- What the functions ask of their callers, all of which is code of this repository.
-use Rattle.std.specs.Prelude.{◌≡◌, List, ℕ, suc, ◌+◌, ◌*◌, ◌<◌, ◌≤◌, length, get_or, ℤ, pos, T}
+use Rattle.std.specs.Prelude.{◌≡◌, List, ℕ, suc, ◌+◌, ◌*◌, ◌<◌, ◌≤◌, length, map, get_or, ℤ, pos, T}
 use Rattle.std.specs.Int.Signed.{mag}
 use Rattle.base.specs.Lists.{all_of, at}
 use Rattle.words.specs.Bias.{bias}
 use Rattle.words.specs.Word.{sign_bit}
+use Rattle.model.specs.declared.Bounds.{Bounds}
 use Rattle.job.specs.declared.Comparison.{Comparison}
 use Rattle.job.specs.Meaning.{comparison_of}
 use Rattle.zone.specs.Zone.{level, least_of}
 use Rattle.zone.specs.Array.{zone_in}
 use Rattle.zone.specs.Uses.{InArray}
 use Rattle.solver.specs.Solver.{bounds_fit, comparison_fits}
-use Rattle.solver.specs.Lists.{bounds_of, comparisons_of}
 
 -- every value is of 32 bits; an i32 slice has no others, but a proof learns it only by reading them
 abbrev pub Words : List ℤ → Type 0
@@ -23,11 +23,10 @@ pub record WordNodes (x : List ℕ) (row : List ℤ) : Type 0 where
   pub high : (i : ℕ) → i < length row → at x (suc i) < bias + sign_bit 4
 
 -- an array, and bounds of at most 32 columns
-pub record BoundsRoom (d : List ℕ) (lo hi : List ℤ) : Type 0 where
-  pub room : (length lo + 1) * 33 ≤ length d
-  pub same : length hi ≡ length lo
-  pub small : length lo ≤ 32
-  pub fit : T (all_of bounds_fit (bounds_of lo hi))
+pub record BoundsRoom (d : List ℕ) (bs : List Bounds) : Type 0 where
+  pub room : (length bs + 1) * 33 ≤ length d
+  pub small : length bs ≤ 32
+  pub fit : T (all_of bounds_fit bs)
 
 -- two nodes of a zone, and what is added to the second
 pub record ImposesNodes (n : ℕ) (d : List ℕ) (a b added : ℕ) : Type 0 where
@@ -42,17 +41,10 @@ pub record Imposes (n : ℕ) (d : List ℕ) (k : Comparison) : Type 0 where
   pub in_array : InArray (n + 1) d
   pub fit : T (comparison_fits n (comparison_of k))
 
--- lists of equal length, which are comparisons of n columns
-pub record Listed (n : ℕ) (op left right : List ℕ) (number : List ℤ) : Type 0 where
-  pub lefts : length left ≡ length op
-  pub rights : length right ≡ length op
-  pub numbers : length number ≡ length op
-  pub fit : T (all_of (comparison_fits n) (comparisons_of op left right number))
-
--- with a zone of these columns
-pub record ImposesAll (n : ℕ) (d op left right : List ℕ) (number : List ℤ) : Type 0 where
+-- a zone of n columns, and comparisons of these
+pub record ImposesAll (n : ℕ) (d : List ℕ) (list : List Comparison) : Type 0 where
   pub in_array : InArray (n + 1) d
-  pub listed : Listed n op left right number
+  pub fit : T (all_of (comparison_fits n) (map comparison_of list))
 
 -- a zone whose least row is of 32 bits, and room for it
 pub record LeastRoom (d : List ℕ) (row : List ℤ) : Type 0 where
@@ -60,9 +52,8 @@ pub record LeastRoom (d : List ℕ) (row : List ℤ) : Type 0 where
   pub words : WordNodes (least_of (zone_in (length row + 1) d)) row
 
 -- bounds, comparisons of their columns, and room for a row
-pub record Solves (lo hi : List ℤ) (op left right : List ℕ) (number row : List ℤ) : Type 0 where
-  pub same : length hi ≡ length lo
-  pub small : length lo ≤ 32
-  pub bounds : T (all_of bounds_fit (bounds_of lo hi))
-  pub listed : Listed (length lo) op left right number
-  pub room : length row ≡ length lo
+pub record Solves (bs : List Bounds) (list : List Comparison) (row : List ℤ) : Type 0 where
+  pub small : length bs ≤ 32
+  pub bounds : T (all_of bounds_fit bs)
+  pub fit : T (all_of (comparison_fits (length bs)) (map comparison_of list))
+  pub room : length row ≡ length bs

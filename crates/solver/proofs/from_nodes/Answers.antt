@@ -19,9 +19,6 @@ from_biased-requires c =
     let k = c.loop-i-test.true in
     rw (add-one _) (u.low _ (omega (arith, l.invariant.size, k)), u.high _ (omega (arith, l.invariant.size, k)))
 
-pub loop-i-smaller : goal.loop-i-smaller
-loop-i-smaller c = omega (arith, c.loop-i.invariant.size)
-
 pub loop-i-preserved : goal.loop-i-preserved
 loop-i-preserved c =
     let s = c.args in
@@ -30,9 +27,6 @@ loop-i-preserved c =
     let k = c.loop-i-test.true in
     front_turn l.invariant (omega (arith, l.invariant.size, k))
     (stored _ c.from_biased.type_inv ∙ c.from_biased.ensures ∙ sym (row_at s.x.now _ (omega (arith, u.size, l.invariant.size, k))))
-
-pub shape_of-row : goal.shape_of-row
-shape_of-row c = c.loop-i.invariant.size
 
 pub returns : goal.returns
 returns c =

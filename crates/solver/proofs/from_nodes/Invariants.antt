@@ -1,5 +1,4 @@
--- `solver::from_nodes` meets its contract: a pass over the row. The measure is what is left of it. Assumes nothing.
-use Prim.Native.Nat.{◌-◌}
+-- `solver::from_nodes` meets its contract: a pass over the row. Assumes nothing.
 use lib.ListN.{length, get_or}
 use lib.IntN.{pos}
 use Rattle.base.proofs.Arrays.{Pass}
@@ -8,6 +7,3 @@ use Rattle.solver.proofs.from_nodes.Given as goal
 
 abbrev pub invariant-loop-i : goal.invariant-loop-i
 invariant-loop-i l = Pass (λ k. get_or (row_of l.x) k (pos 0)) 0 (length l.initial.row) l.i l.initial.row l.row
-
-abbrev pub decreases-loop-i : goal.decreases-loop-i
-decreases-loop-i l = length l.initial.row - l.i

@@ -11,12 +11,12 @@ use Rattle.solver.proofs.impose.Goals as goal
 
 pub impose_nodes-requires : goal.impose_nodes-requires
 impose_nodes-requires c =
-    let e : c.added_to.result ≡ added_to (side_of c.args.k.right c.args.k.number) =
-    c.added_to.ensures ∙ ap (λ (v : ℤ). added_to (side_of c.args.k.right v)) (stored _ c.struct_told-1.given.1.1.1.0.1) in
-    nodes_asked c.args.k c.wide.ensures.0 c.wide-2.ensures.0 e c.requires
+    let e : c.added_to-added.result ≡ added_to (side_of c.args.k.right c.args.k.number) =
+    c.added_to-added.ensures ∙ ap (λ (v : ℤ). added_to (side_of c.args.k.right v)) (stored _ c.struct_told-1.given.1.1.1.0.1) in
+    nodes_asked c.args.k c.at.ensures c.from.ensures c.from-2.ensures e c.requires
 
 pub returns : goal.returns
 returns c =
-    let e : c.added_to.result ≡ added_to (side_of c.args.k.right c.args.k.number) =
-    c.added_to.ensures ∙ ap (λ (v : ℤ). added_to (side_of c.args.k.right v)) (stored _ c.struct_told-1.given.1.1.1.0.1) in
-    rw (← (imposed_is c.args.k c.wide.ensures.0 c.wide-2.ensures.0 e (zone_in (c.args.columns + 1) c.args.d.now))) c.impose_nodes.ensures
+    let e : c.added_to-added.result ≡ added_to (side_of c.args.k.right c.args.k.number) =
+    c.added_to-added.ensures ∙ ap (λ (v : ℤ). added_to (side_of c.args.k.right v)) (stored _ c.struct_told-1.given.1.1.1.0.1) in
+    rw (← (imposed_is c.args.k c.at.ensures c.from.ensures c.from-2.ensures e (zone_in (c.args.columns + 1) c.args.d.now))) c.impose_nodes.ensures

@@ -1,38 +1,40 @@
 -- `solver::impose_nodes` meets its contract. Assumes nothing.
 use mathlib.Core.Path.{sym, ◌∙◌}
-use borrow.Author.Tests.{not-true, not-false}
-use Rattle.words.specs.Compare.{op_at}
 use Rattle.solver.proofs.Imposing.{first_constrains, second_constrains, next_constrains, one_outcome, first_outcome, second_outcome, both_outcome}
 use Rattle.solver.proofs.impose_nodes.Goals as goal
 
 pub constrain-requires : goal.constrain-requires
-constrain-requires c = first_constrains _ _ (op_at c.args.op) _ _ _ c.requires _ c.between-p.ensures
+constrain-requires c = first_constrains _ _ c.args.op _ _ _ c.requires _ c.between-p.ensures
 
-pub returns-then-not-p : goal.returns-then-not-p
-returns-then-not-p c = let r = one_outcome _ _ (op_at c.args.op) _ _ _ c.requires _ c.between-p.ensures (not-true _ c.if-not-p.true) _ _
-    c.constrain.ensures.answer c.constrain.ensures.zone in record { answer = r.0; zone = r.1 }
+pub returns-in_default : goal.returns-in_default
+returns-in_default c =
+    let r = one_outcome _ _ c.args.op _ _ _ c.requires _ c.between-p.ensures c.in_default.is _ _ c.constrain.ensures.answer c.constrain.ensures.zone in
+    record { answer = r.0; zone = r.1 }
 
 pub allows-requires : goal.allows-requires
-allows-requires c = second_constrains _ _ (op_at c.args.op) _ _ _ c.requires _ c.between-p.ensures
+allows-requires c = second_constrains _ _ c.args.op _ _ _ c.requires _ c.between-p.ensures c.in-Some.is
 
 pub returns-then-not-allows : goal.returns-then-not-allows
-returns-then-not-allows c = let r = second_outcome _ _ (op_at c.args.op) _ _ _ c.requires _ c.between-p.ensures
-    (not-false _ c.if-not-p.false) (sym c.allows.ensures ∙ not-true _ c.if-not-allows.true-raw) in record { answer = r.0; zone = r.1 }
+returns-then-not-allows c =
+    let r = second_outcome _ _ c.args.op _ _ _ c.requires _ c.between-p.ensures c.in-Some.is (sym c.allows.ensures ∙ c.if-not-allows.true) in
+    record { answer = r.0; zone = r.1 }
 
 pub constrain-requires-2 : goal.constrain-requires-2
-constrain-requires-2 c = first_constrains _ _ (op_at c.args.op) _ _ _ c.requires _ c.between-p.ensures
+constrain-requires-2 c = first_constrains _ _ c.args.op _ _ _ c.requires _ c.between-p.ensures
 
 pub returns-then-not-constrain : goal.returns-then-not-constrain
-returns-then-not-constrain c = let r = first_outcome _ _ (op_at c.args.op) _ _ _ c.requires _ c.between-p.ensures
-    (not-false _ c.if-not-p.false) (sym c.constrain-2.ensures.answer ∙ not-true _ c.if-not-constrain.true-raw) _ c.constrain-2.ensures.zone
-    in record { answer = r.0; zone = r.1 }
+returns-then-not-constrain c =
+    let r = first_outcome _ _ c.args.op _ _ _ c.requires _ c.between-p.ensures c.in-Some.is
+    (sym c.constrain-2.ensures.answer ∙ c.if-not-constrain.true) _ c.constrain-2.ensures.zone in
+    record { answer = r.0; zone = r.1 }
 
 pub constrain-requires-3 : goal.constrain-requires-3
-constrain-requires-3 c = next_constrains _ _ (op_at c.args.op) _ _ _ c.requires _ c.between-p.ensures (not-false _ c.if-not-p.false)
-    (sym c.constrain-2.ensures.answer ∙ not-false _ c.if-not-constrain.false-raw) _ c.constrain-2.ensures.zone
+constrain-requires-3 c = next_constrains _ _ c.args.op _ _ _ c.requires _ c.between-p.ensures c.in-Some.is
+    (sym c.constrain-2.ensures.answer ∙ c.if-not-constrain.false) _ c.constrain-2.ensures.zone
 
 pub returns : goal.returns
-returns c = let r = both_outcome _ _ (op_at c.args.op) _ _ _ c.requires _ c.between-p.ensures (not-false _ c.if-not-p.false)
-    (sym c.constrain-2.ensures.answer ∙ not-false _ c.if-not-constrain.false-raw) _ c.constrain-2.ensures.zone
-    (sym c.allows.ensures ∙ not-false _ c.if-not-allows.false-raw) _ _ c.constrain-3.ensures.answer c.constrain-3.ensures.zone in record
-    { answer = r.0; zone = r.1 }
+returns c =
+    let r = both_outcome _ _ c.args.op _ _ _ c.requires _ c.between-p.ensures c.in-Some.is
+    (sym c.constrain-2.ensures.answer ∙ c.if-not-constrain.false) _ c.constrain-2.ensures.zone
+    (sym c.allows.ensures ∙ c.if-not-allows.false) _ _ c.constrain-3.ensures.answer c.constrain-3.ensures.zone in
+    record { answer = r.0; zone = r.1 }

@@ -9,12 +9,12 @@ use Rattle.solver.proofs.negations.Goals as goal
 
 pub against-requires : goal.against-requires
 against-requires c =
-    let e : c.added_to.result ≡ added_to (side_of c.args.k.right c.args.k.number) =
-    c.added_to.ensures ∙ ap (λ (v : ℤ). added_to (side_of c.args.k.right v)) (stored _ c.struct_told-1.given.1.1.1.0.1) in
+    let e : c.added_to-added.result ≡ added_to (side_of c.args.k.right c.args.k.number) =
+    c.added_to-added.ensures ∙ ap (λ (v : ℤ). added_to (side_of c.args.k.right v)) (stored _ c.struct_told-1.given.1.1.1.0.1) in
     rw e (word_added c.args.k.right c.args.k.number c.struct_told-1.given.1.1.1.0.1)
 
 pub returns : goal.returns
 returns c =
-    let e : c.added_to.result ≡ added_to (side_of c.args.k.right c.args.k.number) =
-    c.added_to.ensures ∙ ap (λ (v : ℤ). added_to (side_of c.args.k.right v)) (stored _ c.struct_told-1.given.1.1.1.0.1) in
-    c.against.ensures ∙ negations_are c.args.k c.wide.ensures.0 c.wide-2.ensures.0 e
+    let e : c.added_to-added.result ≡ added_to (side_of c.args.k.right c.args.k.number) =
+    c.added_to-added.ensures ∙ ap (λ (v : ℤ). added_to (side_of c.args.k.right v)) (stored _ c.struct_told-1.given.1.1.1.0.1) in
+    c.against.ensures ∙ negations_are c.args.k c.at.ensures c.from.ensures c.from-2.ensures e
