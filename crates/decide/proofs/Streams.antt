@@ -1,8 +1,9 @@
 -- What is read or written in several calls, and what the front of an input tells. Assumes nothing.
-use Rattle.std.proofs.Common.{◌≡◌, ◌∙◌, ℕ, List, [], ◌++◌, ◌+◌, ◌≤◌, ◌<◌, ◌⊎◌, inl, inr, Option, Some, None, IfSome}
+use Rattle.std.proofs.Common.{◌≡◌, ◌∙◌, ℕ, List, [], ◌++◌, ◌+◌, ◌≤◌, ◌<◌, ◌⊎◌, inl, inr, Option, Some, None, IfSome, Result, Ok, Err, OnOk, true≢false}
 use Rattle.std.proofs.Common.{sym, ap, subst, arith, length, take, drop, take_all, append-nil, length-append}
 use Rattle.std.proofs.Math.Nat.{eq-or-lt_of_le}
 use Rattle.std.proofs.Math.Seq.{take-add, take-append_seam}
+use Rattle.std.specs.Result.{is_ok}
 use Rattle.std.specs.Io.KnownBytes.{Appends, Consumes, IsAtEnd}
 use Rattle.std.proofs.KnownBytes.{Appends-trans, Consumes-trans}
 use Rattle.report.specs.Printed.{printed}
@@ -43,3 +44,10 @@ prints None b o p n s full most taken end put = tt
 prints (Some x) None o p n s full most taken end put = absurd taken
 prints (Some x) (Some y) o p n s full most taken end put =
     subst (Appends o p) (front_tells n s x y full taken end (eq-or-lt_of_le most)) put
+
+-- what follows where an answer is Ok, said of the answer with another error
+pub on_ok : {A E F P Q : Type 0} (r : Result A E) (q : Result A F) → is_ok q ≡ is_ok r → OnOk r P → (P → Q) → OnOk q Q
+on_ok (Ok x) (Ok y) v p f = f p
+on_ok (Err e) (Ok y) v p f = absurd (true≢false v)
+on_ok (Ok x) (Err e) v p f = tt
+on_ok (Err d) (Err e) v p f = tt

@@ -53,10 +53,7 @@ fn read_input<R: Read>(clock: &impl Clock, input: &mut R, s: &mut [u8]) -> io::R
             Ok(0) => break,
             Ok(n) => done += n,
             Err(error) => {
-                left = wait::again(clock, error.kind(), left);
-                if left == 0 {
-                    return Err(error);
-                }
+                left = wait::again(clock, error.kind(), left).ok_or(error)?;
             }
         }
     }
@@ -74,10 +71,7 @@ fn write_output<W: Write>(clock: &impl Clock, output: &mut W, s: &[u8]) -> io::R
             Ok(0) => return Err(io::Error::from(ErrorKind::WriteZero)),
             Ok(n) => done += n,
             Err(error) => {
-                left = wait::again(clock, error.kind(), left);
-                if left == 0 {
-                    return Err(error);
-                }
+                left = wait::again(clock, error.kind(), left).ok_or(error)?;
             }
         }
     }
@@ -100,14 +94,8 @@ fn run<R: Read, W: Write>(clock: &impl Clock, input: &mut R, output: &mut W) -> 
     ensures silent { IfErr result (Silent (W.contents output.old) (W.contents output.new)) }
 {
     let mut s = [0u8; ENOUGH];
-    let n = match read_input(clock, input, &mut s) {
-        Ok(n) => n,
-        Err(error) => return Err(Failure::Input(error)),
-    };
-    match answer(clock, output, &s[..n]) {
-        Ok(()) => Ok(()),
-        Err(error) => Err(Failure::Output(error)),
-    }
+    let n = read_input(clock, input, &mut s).map_err(Failure::Input)?;
+    answer(clock, output, &s[..n]).map_err(Failure::Output)
 }
 
 fn main(rt: HostRuntime) {

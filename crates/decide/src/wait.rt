@@ -1,5 +1,5 @@
 // How long a call is tried again that can't be done just now.
-ghost use Rattle.std.specs.Prelude.{◌≡◌, ◌≢◌, ◌≤◌, ◌<◌, ◌-◌};
+ghost use Rattle.std.specs.Prelude.{◌≡◌, ◌≢◌, ◌<◌, ◌-◌, Some, None, IfSome};
 
 use std::io::ErrorKind;
 use std::thread;
@@ -10,25 +10,25 @@ pub const TIMEOUT: usize = 5_000_000_000;
 
 const PAUSE: usize = 10_000_000;
 
-// What is left of the time after a call that failed just now, for this reason, or 0 where it isn't to be tried again. A call
-// that would have blocked is tried again after a pause. One that a signal interrupted is tried again at once, which counts
-// for a nanosecond, so that a loop of tries ends.
-pub fn again(clock: &impl Clock, reason: ErrorKind, left: usize) -> usize
-    ensures less { result ≤ left - 1 }
-    ensures interrupted { PAUSE < left → reason ≡ ErrorKind.Interrupted → result ≡ left - 1 }
-    ensures blocked { PAUSE < left → reason ≡ ErrorKind.WouldBlock → result ≡ left - PAUSE }
-    ensures failed { reason ≢ ErrorKind.Interrupted → reason ≢ ErrorKind.WouldBlock → result ≡ 0 }
+// What is left of the time after a call that failed just now, for this reason; nothing where it isn't to be tried again. A
+// call that would have blocked is tried again after a pause. One that a signal interrupted is tried again at once, which
+// counts for a nanosecond, so that a loop of tries ends.
+pub fn again(clock: &impl Clock, reason: ErrorKind, left: usize) -> Option<usize>
+    ensures less { IfSome result (λ n. n < left) }
+    ensures interrupted { PAUSE < left → reason ≡ ErrorKind.Interrupted → result ≡ Some (left - 1) }
+    ensures blocked { PAUSE < left → reason ≡ ErrorKind.WouldBlock → result ≡ Some (left - PAUSE) }
+    ensures failed { reason ≢ ErrorKind.Interrupted → reason ≢ ErrorKind.WouldBlock → result ≡ None }
 {
     if left <= PAUSE {
-        return 0;
+        return None;
     }
     match reason {
-        ErrorKind::Interrupted => left - 1,
+        ErrorKind::Interrupted => Some(left - 1),
         ErrorKind::WouldBlock => {
             pause(clock);
-            left - PAUSE
+            Some(left - PAUSE)
         }
-        _ => 0,
+        _ => None,
     }
 }
 
