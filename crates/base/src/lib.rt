@@ -10,7 +10,7 @@ ghost use Rattle.base.specs.Bytes.{Room, Puts};
 pub fn wide(b: u8) -> usize
     ensures { (result ≡ b) × (result < 256) }
 {
-    b as usize
+    usize::from(b)
 }
 
 // Whether x is among the first n of a.
@@ -18,14 +18,7 @@ pub fn is_among(a: &[u8], n: usize, x: u8) -> bool
     requires { n ≤ length a.now }
     ensures { result ≡ any_of (eqb x) (take n a.now) }
 {
-    let mut i = 0;
-    while i < n {
-        if a[i] == x {
-            return true;
-        }
-        i += 1;
-    }
-    false
+    a[..n].contains(&x)
 }
 
 // Whether two runs of bytes of one length are alike.
@@ -33,14 +26,7 @@ pub fn same_bytes<'a>(a: &'a [u8], b: &'a [u8]) -> bool
     requires { length b.now ≡ length a.now }
     ensures { result ≡ pairwise eqb a.now b.now }
 {
-    let mut i = 0;
-    while i < a.len() {
-        if a[i] != b[i] {
-            return false;
-        }
-        i += 1;
-    }
-    true
+    a == b
 }
 
 // A byte at a place, and the next place.
