@@ -15,8 +15,6 @@ use Rattle.model.specs.Tables as model
 use Rattle.model.specs.Tables.{Table, columns_of}
 use Rattle.model.specs.declared.Bounds.{Bounds}
 use Rattle.job.specs.declared.Condition.{Condition}
-use Rattle.job.specs.declared.Expression.{Expression}
-use Rattle.job.specs.declared.Job.{Job}
 use Rattle.job.specs.Record.{no_column, no_comparison, no_clause}
 use Rattle.job.specs.Meaning.{column_record, column_records, comparison_record, clause_record, condition_record, expression_record, record_of}
 use Rattle.job.proofs.Meaning.{columns_length}
@@ -147,12 +145,3 @@ pub placed_laid : (q : Bool) (j : model.Job) (e : model.Expression)
 unfolding record_of
 placed_laid true j e = refl
 placed_laid false j e = refl
-
--- what is put in its place stands there, in place of what stood there before
-pub current_placed : (q : Bool) (r : Job) (e : Expression) → current_in q (placed q r e) ≡ e
-current_placed true r e = refl
-current_placed false r e = refl
-
-pub placed_again : (q : Bool) (r : Job) (e x : Expression) → placed q (placed q r e) x ≡ placed q r x
-placed_again true r e x = refl
-placed_again false r e x = refl

@@ -1,11 +1,11 @@
 -- Tests on the record of a job are the tests on the job. Assumes nothing.
 use mathlib.Core.Path.{◌≡◌, refl, ap}
 use mathlib.Core.Bool.{Bool, true, false, ◌&&◌, ◌||◌}
-use mathlib.Core.List.{List, [], ◌∷◌, map}
+use mathlib.Core.List.{List, [], ◌∷◌}
 use Prim.Native.Nat.{ℕ, zero, suc, ◌-◌}
 use native.Mathlib.Numerals.{sub-one}
 use native.Mathlib.Omega.{arith}
-use lib.ListN.{length, get_or, set, take, get_or-map}
+use lib.ListN.{length, get_or, take}
 use lib.Dec.{eqb, ltb}
 use borrow.Author.Tests.{ne_eqb, ltb-true}
 use Rattle.base.specs.Lists.{any_of, last_of}
@@ -15,13 +15,11 @@ use Rattle.model.specs.Tables as model
 use Rattle.model.specs.Tables.{columns_of, table_of, uses}
 use Rattle.model.specs.WellFormed.{in_scope}
 use Rattle.job.specs.declared.Clause.{Clause}
-use Rattle.job.specs.declared.Column.{Column}
-use Rattle.job.specs.declared.Job.{Job}
 use Rattle.job.specs.Record.{no_column}
 use Rattle.job.specs.Meaning.{column_records, condition_record, expression_record, record_of}
 use Rattle.job.proofs.Declared.{column_of}
 use Rattle.layout.specs.Reading.{above_last}
-use Rattle.commands.specs.Uses.{tables_in, last_clause, scoped_in, above_in}
+use Rattle.commands.specs.Uses.{last_clause, scoped_in, above_in}
 use Rattle.commands.proofs.Laid.{last_laid}
 
 last_above : (l : List ℕ) (i t : ℕ) → suc i ≡ length l → ltb (get_or l i 0) t ≡ above_last l t
@@ -65,17 +63,3 @@ scoped_is j e c = rw (used_are e) (go (ltb c (length (columns_of j.tables))) ref
 pub last_size_is : (k : model.Condition) → (last_clause (condition_record k)).size ≡ length (last_of k)
 last_size_is [] = refl
 last_size_is (x ∷ k) = ap (λ (c : Clause). c.size) (last_laid (x ∷ k) (length k) refl)
-
--- ---- the tables of the columns, beside the record
-pub table_at : (r : Job) (ts : List ℕ) (c : ℕ) → ts ≡ tables_in r → get_or ts c 0 ≡ (get_or r.columns c no_column).table
-table_at r ts c e = rw e (get_or-map (λ (k : Column). k.table) r.columns c no_column)
-
-table_set : (l : List Column) (n : ℕ) (k : Column)
-    → set (map (λ (c : Column). c.table) l) n k.table ≡ map (λ (c : Column). c.table) (set l n k)
-table_set [] n k = refl
-table_set (x ∷ l) zero k = refl
-table_set (x ∷ l) (suc n) k = rw (table_set l n k)
-
-pub table_more_lem : (r : Job) (ts : List ℕ) (n : ℕ) (k : Column) → ts ≡ tables_in r
-    → set ts n k.table ≡ map (λ (c : Column). c.table) (set r.columns n k)
-table_more_lem r ts n k e = rw e (table_set r.columns n k)

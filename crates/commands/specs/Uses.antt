@@ -1,5 +1,5 @@
 -- What the functions on commands answer and what they may rely on: entries added to a record, and the checks of a command's operands.
-use Rattle.std.specs.Prelude.{◌≡◌, Bool, true, cond, ◌&&◌, ◌||◌, List, [], map, ℕ, ◌+◌, ◌-◌, ◌<◌, get_or, set, take, replicate, ℤ, T, eqb, ltb, Result, Ok, Err}
+use Rattle.std.specs.Prelude.{◌≡◌, Bool, true, false, cond, ◌&&◌, ◌||◌, [], ℕ, ◌+◌, ◌-◌, ◌<◌, ◌≤◌, get_or, set, take, ℤ, T, eqb, ltb, Result, Ok, Err}
 use Rattle.std.specs.Int.Signed.{le_z}
 use Rattle.base.specs.Lists.{any_of}
 use Rattle.layout.specs.Sound.{Sound}
@@ -10,51 +10,23 @@ use Rattle.job.specs.declared.Clause.{Clause}
 use Rattle.job.specs.declared.Condition.{Condition}
 use Rattle.job.specs.declared.Expression.{Expression}
 use Rattle.job.specs.declared.Job.{Job}
-use Rattle.job.specs.Record.{no_column, no_comparison, no_clause, no_expression}
+use Rattle.job.specs.Record.{no_column, no_job}
 use Rattle.job.specs.Meaning.{meaning_of, record_of}
 use Rattle.layout.specs.declared.Command.{Command}
 use Rattle.layout.specs.declared.Fault.{Fault}
 use Rattle.layout.specs.Commands.{Entry}
 use Rattle.layout.specs.Faults.{fault_of}
 use Rattle.layout.specs.Reading.{State, current, follows, has_room, in_ranges, op_known, declared, is_new, added}
-use Rattle.commands.specs.declared.Cursor.{Cursor}
-use Rattle.commands.specs.declared.Draft.{Draft}
 use Rattle.commands.specs.declared.Addition.{Addition}
-use Rattle.commands.specs.declared.Addition.TheVariants.{Table as TableAdded, Column as ColumnAdded, Nothing}
-use Rattle.commands.specs.declared.Addition.TheVariants.{Used, Output, Clause as ClauseAdded, Compared}
+use Rattle.commands.specs.declared.Addition.TheVariants.{Table as TableAdded, Column as ColumnAdded, Part as PartAdded, Nothing}
+use Rattle.commands.specs.declared.Part.{Part}
+use Rattle.commands.specs.declared.Part.TheVariants.{Used, Output, Clause as ClauseAdded, Compared}
+use Rattle.commands.specs.declared.Progress.{Progress}
 
 -- ---- The record's parts
 
 abbrev pub current_in : Bool → Job → Expression
 current_in q r = cond q r.query r.extract
-
-abbrev pub no_draft : Draft
-no_draft = record {
-  tables = 0;
-  used = replicate 4 0;
-  width = 0;
-  outputs = replicate 16 0;
-  size = 0;
-  clauses = replicate 4 no_clause;
-  comparisons = 0;
-  last = replicate 6 no_comparison;
-}
-
--- the last clause; where there is none, the empty one
-abbrev pub last_in : Draft → Clause
-last_in d = record { size = d.comparisons; comparisons = d.last }
-
--- the clauses, with the last one in its place
-abbrev pub condition_in : Draft → Condition
-condition_in d = record { size = d.size; clauses = set d.clauses (d.size - 1) (last_in d) }
-
--- the expression that is drafted
-abbrev pub drafted : Draft → Expression
-drafted d = record { tables = d.tables; used = d.used; width = d.width; outputs = d.outputs; condition = condition_in d }
-
--- the tables of the columns
-abbrev pub tables_in : Job → List ℕ
-tables_in r = map (λ (c : Column). c.table) r.columns
 
 -- the last clause, where there is one
 abbrev pub last_clause : Condition → Clause
@@ -68,6 +40,10 @@ scoped_in r e c = ltb c r.width && any_of (eqb (get_or r.columns c no_column).ta
 abbrev pub above_in : Expression → ℕ → Bool
 above_in e t = eqb e.tables 0 || ltb (get_or e.used (e.tables - 1) 0) t
 
+-- column c is an output
+abbrev pub output_in : Expression → ℕ → Bool
+output_in e c = any_of (eqb c) (take e.width e.outputs)
+
 -- with an expression in place of the current one
 abbrev pub placed : Bool → Job → Expression → Job
 placed q r e = record {
@@ -78,13 +54,15 @@ placed q r e = record {
   query = cond q e r.query;
 }
 
--- the record that is being read into: the draft of the expression that commands are for stands beside it
-abbrev pub whole : Cursor → Job → Draft → Job
-whole cur r d = placed cur.in_query r (drafted d)
+-- ---- What has been read
 
--- what a cursor and that record say has been read
-abbrev pub state_in : Cursor → Job → Draft → State
-state_in cur r d = record { last = cur.last; in_query = cur.in_query; job = meaning_of (whole cur r d) }
+-- nothing but the start
+abbrev pub at_start : Progress
+at_start = record { cursor = record { at = 4; last = 0; in_query = false }; job = no_job }
+
+-- what a cursor and a record say has been read
+abbrev pub state_of : Progress → State
+state_of p = record { last = p.cursor.last; in_query = p.cursor.in_query; job = meaning_of p.job }
 
 -- ---- One entry more
 
@@ -131,25 +109,32 @@ comparison_more k c = record { size = k.size; clauses = set k.clauses (k.size - 
 abbrev pub conditioned : Expression → Condition → Expression
 conditioned e k = record { tables = e.tables; used = e.used; width = e.width; outputs = e.outputs; condition = k }
 
+-- an expression with what a command adds
+abbrev pub part_more : Expression → Part → Expression
+part_more e (Used t) = used_more e t
+part_more e (Output c) = output_more e c
+part_more e ClauseAdded = conditioned e (clause_more e.condition)
+part_more e (Compared k) = conditioned e (comparison_more e.condition k)
+
 -- the record with what a command adds
-abbrev pub grown : Cursor → Job → Draft → Addition → Job
-grown cur r d TableAdded = whole cur (table_more r) d
-grown cur r d (ColumnAdded k) = whole cur (column_more r k) d
-grown cur r d Nothing = whole cur r d
-grown cur r d (Used t) = placed cur.in_query r (used_more (drafted d) t)
-grown cur r d (Output c) = placed cur.in_query r (output_more (drafted d) c)
-grown cur r d ClauseAdded = placed cur.in_query r (conditioned (drafted d) (clause_more (condition_in d)))
-grown cur r d (Compared k) = placed cur.in_query r (conditioned (drafted d) (comparison_more (condition_in d) k))
+abbrev pub grown : Progress → Addition → Job
+grown p TableAdded = table_more p.job
+grown p (ColumnAdded k) = column_more p.job k
+grown p (PartAdded x) = placed p.cursor.in_query p.job (part_more (current_in p.cursor.in_query p.job) x)
+grown p Nothing = p.job
 
 -- there is room for it
-abbrev pub Fits : Job → Draft → Addition → Type 0
-Fits r d TableAdded = r.tables < 4
-Fits r d (ColumnAdded k) = r.width < 16
-Fits r d Nothing = T true
-Fits r d (Used t) = d.tables < 4
-Fits r d (Output c) = d.width < 16
-Fits r d ClauseAdded = d.size < 4
-Fits r d (Compared k) = d.comparisons < 6
+abbrev pub PartFits : Expression → Part → Type 0
+PartFits e (Used t) = e.tables < 4
+PartFits e (Output c) = e.width < 16
+PartFits e ClauseAdded = e.condition.size < 4
+PartFits e (Compared k) = (0 < e.condition.size) × (e.condition.size ≤ 4) × ((last_clause e.condition).size < 6)
+
+abbrev pub Fits : Progress → Addition → Type 0
+Fits p TableAdded = p.job.tables < 4
+Fits p (ColumnAdded k) = p.job.width < 16
+Fits p (PartAdded x) = PartFits (current_in p.cursor.in_query p.job) x
+Fits p Nothing = T true
 
 -- ---- The checks 7 to 10
 
@@ -170,29 +155,28 @@ entered_of st x =
     (Ok (record_of (added st.in_query st.job (current st) x))))))
 
 -- what was judged, in terms of the record
-abbrev pub entered_by : Cursor → Job → Draft → Result Addition Fault → Result Job Fault
-entered_by cur r d (Ok x) = Ok (grown cur r d x)
-entered_by cur r d (Err f) = Err f
+abbrev pub entered_by : Progress → Result Addition Fault → Result Job Fault
+entered_by p (Ok x) = Ok (grown p x)
+entered_by p (Err f) = Err f
 
-abbrev pub FitsJudged : Job → Draft → Result Addition Fault → Type 0
-FitsJudged r d (Ok x) = Fits r d x
-FitsJudged r d (Err f) = T true
+abbrev pub FitsJudged : Progress → Result Addition Fault → Type 0
+FitsJudged p (Ok x) = Fits p x
+FitsJudged p (Err f) = T true
 
 -- an entry is judged rightly
-pub record Judges (cur : Cursor) (r : Job) (d : Draft) (x : Entry) (j : Result Addition Fault) : Type 0 where
-  pub told : entered_by cur r d j ≡ entered_of (state_in cur r d) x
-  pub fits : FitsJudged r d j
+pub record Judges (p : Progress) (x : Entry) (j : Result Addition Fault) : Type 0 where
+  pub told : entered_by p j ≡ entered_of (state_of p) x
+  pub fits : FitsJudged p j
 
 -- ---- What reading keeps
 
--- the record is a job's, and what has been read is well formed as far as it goes; the query is put into the record at the end
-pub record Held (cur : Cursor) (job : Job) (d : Draft) : Type 0 where
-  pub laid : whole cur job d ≡ record_of (meaning_of (whole cur job d))
-  pub sound : Sound (state_in cur job d)
-  pub idle : job.query ≡ no_expression
+-- the record is a job's, and what has been read is well formed as far as it goes
+pub record Held (p : Progress) : Type 0 where
+  pub laid : p.job ≡ record_of (meaning_of p.job)
+  pub sound : Sound (state_of p)
 
 -- a command that is in order and has room
-pub record Ready (cur : Cursor) (job : Job) (d : Draft) (c : Command) : Type 0 where
-  pub held : Held cur job d
-  pub in_order : follows (state_in cur job d) c ≡ true
-  pub room : has_room (state_in cur job d) c ≡ true
+pub record Ready (p : Progress) (c : Command) : Type 0 where
+  pub held : Held p
+  pub in_order : follows (state_of p) c ≡ true
+  pub room : has_room (state_of p) c ≡ true

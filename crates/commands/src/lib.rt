@@ -1,133 +1,36 @@
-// The commands of a job's bytes: which byte is which, and the checks of document 01 on one command, each by itself. Those that need the
-// record look at it and never change it.
+// The commands of a job's bytes: which byte is which, the checks of document 01 on one command, each by itself, and what a command adds to
+// the record.
 #![tactic(auto)]
 
-ghost use Rattle.std.specs.Prelude.{◌≡◌, ◌||◌, ◌+◌, ◌-◌, ◌≤◌, ◌<◌, length, replicate, eqb, leb};
+ghost use Rattle.std.specs.Prelude.{◌≡◌, ◌||◌, ◌+◌, ◌≤◌, ◌<◌, length, eqb, leb};
 ghost use Rattle.base.specs.Lists.{any_of};
 ghost use Rattle.model.specs.WellFormed.{in_range};
-ghost use Rattle.job.specs.Record.{no_comparison};
 ghost use Rattle.layout.specs.declared.Command.TheVariants.{NextColumn, TableUsed, OutputColumn, NumberCompared, ColumnCompared};
 ghost use Rattle.layout.specs.Commands.{command_of, operands, in_condition, ending, before, entry_at};
 ghost use Rattle.layout.specs.Reading.{starts, has_room};
-ghost use Rattle.commands.specs.Uses.{no_draft, last_in, drafted, state_in, scoped_in, above_in, tables_in, bounds_fit};
-ghost use Rattle.commands.specs.Uses.{Judges, Held, Ready};
+ghost use Rattle.commands.specs.Uses.{at_start, current_in, state_of, scoped_in, above_in, output_in, bounds_fit, part_more, grown};
+ghost use Rattle.commands.specs.Uses.{PartFits, Fits, Judges, Held, Ready};
 
-use job::{Clause, Column, Comparison, Condition, Expression, Job};
+use job::{Column, Comparison, Expression, Job};
 use layout::{Command, Fault};
-
-// Where the next command is due, the byte of the last command (0 at the start), and whether the query has begun.
-#[derive(Clone, Copy)]
-pub struct Cursor {
-    pub at: usize,
-    pub last: u8,
-    pub in_query: bool,
-}
-
-// The expression that commands are for. It is written in place, which an array in a struct in a struct cannot be: so the condition's parts
-// stand beside the others, and the last clause's, the first `comparisons` of `last`, by themselves. `clauses` has the clauses before it.
-#[derive(Clone, Copy)]
-pub struct Draft {
-    pub tables: usize,
-    pub used: [u8; Job::TABLES],
-    pub width: usize,
-    pub outputs: [u8; Job::COLUMNS],
-    pub size: usize,
-    pub clauses: [Clause; Job::CLAUSES],
-    pub comparisons: usize,
-    pub last: [Comparison; Job::COMPARISONS],
-}
-
-// What a clause begins with.
-pub fn no_comparisons() -> [Comparison; Job::COMPARISONS]
-    ensures { result ≡ replicate 6 no_comparison }
-{
-    let comparison = Comparison {
-        op: 0,
-        left: 0,
-        right: 0,
-        number: 0,
-    };
-    [comparison; Job::COMPARISONS]
-}
-
-// The place of the last of n clauses; 0 where there is none.
-pub fn last_place(n: usize) -> usize
-    ensures { result ≡ n - 1 }
-{
-    if n == 0 { 0 } else { n - 1 }
-}
-
-impl Draft {
-    // What an expression begins with.
-    pub fn empty() -> Self
-        ensures { result ≡ no_draft }
-    {
-        let none = no_comparisons();
-        let clause = Clause {
-            size: 0,
-            comparisons: none,
-        };
-        Self {
-            tables: 0,
-            used: [0; Job::TABLES],
-            width: 0,
-            outputs: [0; Job::COLUMNS],
-            size: 0,
-            clauses: [clause; Job::CLAUSES],
-            comparisons: 0,
-            last: none,
-        }
-    }
-
-    // The last clause.
-    pub fn last_clause(self) -> Clause
-        ensures { result ≡ last_in self }
-    {
-        let last = self.last;
-        Clause {
-            size: self.comparisons,
-            comparisons: last,
-        }
-    }
-
-    // The expression as the record has it: the last clause is in its place. Where there is none, the empty one stands there already.
-    pub fn expression(self) -> Expression
-        requires { self.size ≤ 4 }
-        ensures { result ≡ drafted self }
-    {
-        let used = self.used;
-        let outputs = self.outputs;
-        let clauses = self.clauses;
-        let mut condition = Condition {
-            size: self.size,
-            clauses,
-        };
-        let at = last_place(self.size);
-        condition.clauses[at] = self.last_clause();
-        Expression {
-            tables: self.tables,
-            used,
-            width: self.width,
-            outputs,
-            condition,
-        }
-    }
-}
 
 // What a command adds to the record. The commands that begin an expression or end the job add nothing.
 #[derive(Clone, Copy)]
 pub enum Addition {
     Table,
     Column(Column),
+    Part(Part),
     Nothing,
+}
+
+// What a command adds to an expression.
+#[derive(Clone, Copy)]
+pub enum Part {
     Used(u8),
     Output(u8),
     Clause,
     Compared(Comparison),
 }
-
-// The table of each column. It stands beside the record, where it can be looked up in place.
-pub type Tables = [u8; Job::COLUMNS];
 
 // ---- Commands by themselves
 
@@ -135,11 +38,7 @@ pub type Tables = [u8; Job::COLUMNS];
 pub fn is_start(s: &[u8]) -> bool
     ensures { result ≡ starts s.now }
 {
-    let start = b"PSJ1";
-    if s.len() < 4 {
-        return false;
-    }
-    base::same_bytes(start, &s[..4])
+    s.starts_with(b"PSJ1")
 }
 
 // The command that a byte stands for.
@@ -192,21 +91,21 @@ pub fn operands(c: Command) -> usize
     }
 }
 
-// Whether a command may come after the last one.
+// Whether a command may come after the last one. That one is told by its byte, which is 0 at the start, where there is none.
 pub fn follows(c: Command, last: u8, in_query: bool) -> bool
     ensures { result ≡ any_of (eqb last) (before in_query c) }
 {
     match c {
-        Command::NextTable => base::is_among(&[0, 0x11], 2, last),
-        Command::NextColumn => base::is_among(&[0x10, 0x11], 2, last),
-        Command::ExtractBegins => base::is_among(&[0x11], 1, last),
-        Command::QueryBegins => if in_query { false } else { is_ending(last) },
-        Command::TableUsed => base::is_among(&[0x20, 0x21, 0x30], 3, last),
-        Command::OutputColumn => base::is_among(&[0x30, 0x31], 2, last),
+        Command::NextTable => matches!(last, 0 | 0x11),
+        Command::NextColumn => matches!(last, 0x10 | 0x11),
+        Command::ExtractBegins => last == 0x11,
+        Command::QueryBegins => !in_query && is_ending(last),
+        Command::TableUsed => matches!(last, 0x20 | 0x21 | 0x30),
+        Command::OutputColumn => matches!(last, 0x30 | 0x31),
         Command::NextClause => is_ending(last),
         Command::NumberCompared => is_in_condition(last),
         Command::ColumnCompared => is_in_condition(last),
-        Command::End => if in_query { is_ending(last) } else { false },
+        Command::End => in_query && is_ending(last),
     }
 }
 
@@ -214,25 +113,21 @@ pub fn follows(c: Command, last: u8, in_query: bool) -> bool
 fn is_in_condition(last: u8) -> bool
     ensures { result ≡ any_of (eqb last) in_condition }
 {
-    base::is_among(&[0x40, 0x41, 0x42], 3, last)
+    matches!(last, 0x40 | 0x41 | 0x42)
 }
 
 // Whether an expression may end after the last command.
 fn is_ending(last: u8) -> bool
     ensures { result ≡ any_of (eqb last) ending }
 {
-    if last == 0x31 {
-        true
-    } else {
-        is_in_condition(last)
-    }
+    last == 0x31 || is_in_condition(last)
 }
 
 // Whether the query has begun after a command of byte b.
 pub fn has_begun(in_query: bool, b: u8) -> bool
     ensures { result ≡ (in_query || eqb b 0x21) }
 {
-    if in_query { true } else { b == 0x21 }
+    in_query || b == 0x21
 }
 
 // Whether n bytes stand behind the one at a place.
@@ -247,227 +142,285 @@ pub fn has_bytes(s: &[u8], at: usize, n: usize) -> bool
 fn in_range(v: i32) -> bool
     ensures { result ≡ in_range v }
 {
-    if Job::LOWEST <= v {
-        v <= Job::HIGHEST
-    } else {
-        false
-    }
+    Job::LOWEST <= v && v <= Job::HIGHEST
 }
 
 // Whether lo and hi are in range, and lo is at most hi.
 fn are_bounds(lo: i32, hi: i32) -> bool
     ensures { result ≡ bounds_fit lo hi }
 {
-    if !in_range(lo) {
-        return false;
-    }
-    if !in_range(hi) {
-        return false;
-    }
-    lo <= hi
+    in_range(lo) && in_range(hi) && lo <= hi
 }
 
 // ---- The record so far
 
-// The draft stands beside the record: the record so far is the one with it in its place. What a function takes by value is not copied where
-// only numbers of it are read; an array that is indexed is taken out first, since else all that stands beside it would be copied too.
+// Where the next command is due, the byte of the last command (0 at the start), and whether the query has begun.
+#[derive(Clone, Copy)]
+pub struct Cursor {
+    pub at: usize,
+    pub last: u8,
+    pub in_query: bool,
+}
 
-// Whether a command's entry is within the limits.
-pub fn has_room(c: Command, cur: Cursor, job: Job, e: Draft) -> bool
-    requires { Held cur job e }
-    ensures { result ≡ has_room (state_in cur job e) c }
-{
-    match c {
-        Command::NextTable => job.tables < Job::TABLES,
-        Command::NextColumn => job.width < Job::COLUMNS,
-        Command::ExtractBegins => true,
-        Command::QueryBegins => true,
-        Command::TableUsed => true,
-        Command::OutputColumn => true,
-        Command::NextClause => e.size < Job::CLAUSES,
-        Command::NumberCompared => e.comparisons < Job::COMPARISONS,
-        Command::ColumnCompared => e.comparisons < Job::COMPARISONS,
-        Command::End => true,
+// What has been read so far.
+#[derive(Clone, Copy)]
+pub struct Progress {
+    pub cursor: Cursor,
+    pub job: Job,
+}
+
+impl Progress {
+    // Nothing but the start.
+    pub fn new() -> Self
+        ensures { result ≡ at_start }
+    {
+        let cursor = Cursor {
+            at: 4,
+            last: 0,
+            in_query: false,
+        };
+        Self {
+            cursor,
+            job: Job::empty(),
+        }
+    }
+
+    // The expression that commands are for.
+    fn current(&self) -> &Expression
+        ensures { result.now ≡ current_in self.now.cursor.in_query self.now.job }
+    {
+        if self.cursor.in_query {
+            &self.job.query
+        } else {
+            &self.job.extract
+        }
+    }
+
+    // Whether a command's entry is within the limits.
+    pub fn has_room(&self, c: Command) -> bool
+        requires { Held self.now }
+        ensures { result ≡ has_room (state_of self.now) c }
+    {
+        match c {
+            Command::NextTable => self.job.tables < Job::TABLES,
+            Command::NextColumn => self.job.width < Job::COLUMNS,
+            Command::ExtractBegins => true,
+            Command::QueryBegins => true,
+            Command::TableUsed => true,
+            Command::OutputColumn => true,
+            Command::NextClause => self.current().condition.size < Job::CLAUSES,
+            Command::NumberCompared => self.has_room_to_compare(),
+            Command::ColumnCompared => self.has_room_to_compare(),
+            Command::End => true,
+        }
+    }
+
+    // Whether the last clause has room. Where there is none, the first place has an empty one.
+    fn has_room_to_compare(&self) -> bool
+        requires { Held self.now }
+        ensures { result ≡ has_room (state_of self.now) NumberCompared }
+    {
+        let condition = &self.current().condition;
+        let last = condition.size.saturating_sub(1);
+        condition.clauses[last].size < Job::COMPARISONS
+    }
+
+    // Whether column c is declared and its table used.
+    fn is_in_scope(&self, c: u8) -> bool
+        requires { Held self.now }
+        ensures { result ≡ scoped_in self.now.job (current_in self.now.cursor.in_query self.now.job) c }
+    {
+        let k = usize::from(c);
+        if k >= self.job.width {
+            return false;
+        }
+        let e = self.current();
+        e.used[..e.tables].contains(&self.job.columns[k].table)
+    }
+
+    // Whether table t comes after the used tables.
+    fn is_above(&self, t: u8) -> bool
+        requires { Held self.now }
+        ensures { result ≡ above_in (current_in self.now.cursor.in_query self.now.job) t }
+    {
+        let e = self.current();
+        e.tables == 0 || e.used[e.tables - 1] < t
+    }
+
+    // Whether column c is an output already.
+    fn is_output(&self, c: u8) -> bool
+        requires { Held self.now }
+        ensures { result ≡ output_in (current_in self.now.cursor.in_query self.now.job) c }
+    {
+        let e = self.current();
+        e.outputs[..e.width].contains(&c)
+    }
+
+    // ---- A command's operands, by the checks 7 to 10 in this order
+
+    // 11: lo, hi.
+    fn next_column(&self, s: &[u8]) -> Result<Addition, Fault>
+        requires { (Ready self.now NextColumn) × (self.now.cursor.at + 9 ≤ length s.now) }
+        ensures { Judges self.now (entry_at NextColumn s.now self.now.cursor.at) result }
+    {
+        let at = self.cursor.at;
+        let lo = words::read(s, at + 1);
+        let hi = words::read(s, at + 5);
+        if !are_bounds(lo, hi) {
+            return Err(Fault::OutOfRange);
+        }
+        // The table that was declared last.
+        let table = (self.job.tables - 1) as u8;
+        Ok(Addition::Column(Column { table, lo, hi }))
+    }
+
+    // 30: a table, declared and above the ones before it.
+    fn table_used(&self, s: &[u8]) -> Result<Addition, Fault>
+        requires { (Ready self.now TableUsed) × (self.now.cursor.at + 2 ≤ length s.now) }
+        ensures { Judges self.now (entry_at TableUsed s.now self.now.cursor.at) result }
+    {
+        let t = s[self.cursor.at + 1];
+        if usize::from(t) >= self.job.tables {
+            return Err(Fault::Undeclared);
+        }
+        if !self.is_above(t) {
+            return Err(Fault::NotNew);
+        }
+        Ok(Addition::Part(Part::Used(t)))
+    }
+
+    // 31: a column in scope that is no output yet.
+    fn output_column(&self, s: &[u8]) -> Result<Addition, Fault>
+        requires { (Ready self.now OutputColumn) × (self.now.cursor.at + 2 ≤ length s.now) }
+        ensures { Judges self.now (entry_at OutputColumn s.now self.now.cursor.at) result }
+    {
+        let c = s[self.cursor.at + 1];
+        if !self.is_in_scope(c) {
+            return Err(Fault::Undeclared);
+        }
+        if self.is_output(c) {
+            return Err(Fault::NotNew);
+        }
+        Ok(Addition::Part(Part::Output(c)))
+    }
+
+    // 41: op, column, number. The number is judged before the op.
+    fn number_compared(&self, s: &[u8]) -> Result<Addition, Fault>
+        requires { (Ready self.now NumberCompared) × (self.now.cursor.at + 7 ≤ length s.now) }
+        ensures { Judges self.now (entry_at NumberCompared s.now self.now.cursor.at) result }
+    {
+        let at = self.cursor.at;
+        let number = words::read(s, at + 3);
+        if !in_range(number) {
+            return Err(Fault::OutOfRange);
+        }
+        let op = s[at + 1];
+        if op > 4 {
+            return Err(Fault::UnknownOp);
+        }
+        let left = s[at + 2];
+        if !self.is_in_scope(left) {
+            return Err(Fault::Undeclared);
+        }
+        let k = Comparison {
+            op,
+            left,
+            right: 0,
+            number,
+        };
+        Ok(Addition::Part(Part::Compared(k)))
+    }
+
+    // 42: op, column, column.
+    fn column_compared(&self, s: &[u8]) -> Result<Addition, Fault>
+        requires { (Ready self.now ColumnCompared) × (self.now.cursor.at + 4 ≤ length s.now) }
+        ensures { Judges self.now (entry_at ColumnCompared s.now self.now.cursor.at) result }
+    {
+        let at = self.cursor.at;
+        let op = s[at + 1];
+        if op > 4 {
+            return Err(Fault::UnknownOp);
+        }
+        let left = s[at + 2];
+        if !self.is_in_scope(left) {
+            return Err(Fault::Undeclared);
+        }
+        let right = s[at + 3];
+        if !self.is_in_scope(right) {
+            return Err(Fault::Undeclared);
+        }
+        let k = Comparison {
+            op,
+            left,
+            right: right + 1,
+            number: 0,
+        };
+        Ok(Addition::Part(Part::Compared(k)))
+    }
+
+    // A command that has passed the checks 2 to 6.
+    pub fn enter(&self, s: &[u8], c: Command) -> Result<Addition, Fault>
+        requires { (Ready self.now c) × (self.now.cursor.at + 1 + operands c ≤ length s.now) }
+        ensures { Judges self.now (entry_at c s.now self.now.cursor.at) result }
+    {
+        match c {
+            Command::NextTable => Ok(Addition::Table),
+            Command::NextColumn => self.next_column(s),
+            Command::ExtractBegins => Ok(Addition::Nothing),
+            Command::QueryBegins => Ok(Addition::Nothing),
+            Command::TableUsed => self.table_used(s),
+            Command::OutputColumn => self.output_column(s),
+            Command::NextClause => Ok(Addition::Part(Part::Clause)),
+            Command::NumberCompared => self.number_compared(s),
+            Command::ColumnCompared => self.column_compared(s),
+            Command::End => Ok(Addition::Nothing),
+        }
+    }
+
+    // ---- What a command adds
+
+    // Adds what a command adds, and goes on to the next. The record is written in place.
+    pub fn go_on(&mut self, next: Cursor, x: Addition)
+        requires { Fits self.old x }
+        ensures { self.new ≡ record { cursor = next; job = grown self.old x } }
+    {
+        match x {
+            Addition::Table => self.job.tables += 1,
+            Addition::Column(k) => {
+                self.job.columns[self.job.width] = k;
+                self.job.width += 1;
+            }
+            Addition::Part(p) => if self.cursor.in_query {
+                put(&mut self.job.query, p);
+            } else {
+                put(&mut self.job.extract, p);
+            },
+            Addition::Nothing => {}
+        }
+        self.cursor = next;
     }
 }
 
-// Whether column c is declared and its table used.
-fn is_in_scope(tables: &Tables, job: Job, e: Draft, c: u8) -> bool
-    requires { (tables.now ≡ tables_in job) × (job.width ≤ 16) × (e.tables ≤ 4) }
-    ensures { result ≡ scoped_in job (drafted e) c }
+// Puts a part into an expression, behind the others of its kind.
+fn put(e: &mut Expression, p: Part)
+    requires { PartFits e.old p }
+    ensures { e.new ≡ part_more e.old p }
 {
-    let k = c as usize;
-    if k >= job.width {
-        return false;
-    }
-    let used = e.used;
-    base::is_among(&used, e.tables, tables[k])
-}
-
-// Whether table t comes after the used tables.
-fn is_above(e: Draft, t: u8) -> bool
-    requires { e.tables ≤ 4 }
-    ensures { result ≡ above_in (drafted e) t }
-{
-    if e.tables == 0 {
-        return true;
-    }
-    let used = e.used;
-    used[e.tables - 1] < t
-}
-
-// ---- A command's operands, by the checks 7 to 10 in this order
-
-// 11: lo, hi.
-fn next_column(s: &[u8], cur: Cursor, job: Job, e: Draft) -> Result<Addition, Fault>
-    requires { (Ready cur job e NextColumn) × (cur.at + 9 ≤ length s.now) }
-    ensures { Judges cur job e (entry_at NextColumn s.now cur.at) result }
-{
-    let at = cur.at;
-    let lo = words::read(s, at + 1);
-    let hi = words::read(s, at + 5);
-    if !are_bounds(lo, hi) {
-        return Err(Fault::OutOfRange);
-    }
-    // The table that was declared last.
-    let table = (job.tables - 1) as u8;
-    let column = Column {
-        table: table,
-        lo: lo,
-        hi: hi,
-    };
-    Ok(Addition::Column(column))
-}
-
-// 30: a table, declared and above the ones before it.
-fn table_used(s: &[u8], cur: Cursor, job: Job, e: Draft) -> Result<Addition, Fault>
-    requires { (Ready cur job e TableUsed) × (cur.at + 2 ≤ length s.now) }
-    ensures { Judges cur job e (entry_at TableUsed s.now cur.at) result }
-{
-    let at = cur.at;
-    let t = s[at + 1];
-    if t as usize >= job.tables {
-        return Err(Fault::Undeclared);
-    }
-    if !is_above(e, t) {
-        return Err(Fault::NotNew);
-    }
-    Ok(Addition::Used(t))
-}
-
-// 31: a column in scope that is no output yet.
-fn output_column(
-    s: &[u8],
-    tables: &Tables,
-    cur: Cursor,
-    job: Job,
-    e: Draft,
-) -> Result<Addition, Fault>
-    requires { (Ready cur job e OutputColumn) × (cur.at + 2 ≤ length s.now) × (tables.now ≡ tables_in job) }
-    ensures { Judges cur job e (entry_at OutputColumn s.now cur.at) result }
-{
-    let at = cur.at;
-    let c = s[at + 1];
-    if !is_in_scope(tables, job, e, c) {
-        return Err(Fault::Undeclared);
-    }
-    let outputs = e.outputs;
-    if base::is_among(&outputs, e.width, c) {
-        return Err(Fault::NotNew);
-    }
-    Ok(Addition::Output(c))
-}
-
-// 41: op, column, number. The number is judged before the op.
-fn number_compared(
-    s: &[u8],
-    tables: &Tables,
-    cur: Cursor,
-    job: Job,
-    e: Draft,
-) -> Result<Addition, Fault>
-    requires { (Ready cur job e NumberCompared) × (cur.at + 7 ≤ length s.now) × (tables.now ≡ tables_in job) }
-    ensures { Judges cur job e (entry_at NumberCompared s.now cur.at) result }
-{
-    let at = cur.at;
-    let number = words::read(s, at + 3);
-    let op = s[at + 1];
-    let fits = in_range(number);
-    let known = op <= 4;
-    if !fits {
-        return Err(Fault::OutOfRange);
-    }
-    if !known {
-        return Err(Fault::UnknownOp);
-    }
-    let left = s[at + 2];
-    if !is_in_scope(tables, job, e, left) {
-        return Err(Fault::Undeclared);
-    }
-    let k = Comparison {
-        op: op,
-        left: left,
-        right: 0,
-        number: number,
-    };
-    Ok(Addition::Compared(k))
-}
-
-// 42: op, column, column.
-fn column_compared(
-    s: &[u8],
-    tables: &Tables,
-    cur: Cursor,
-    job: Job,
-    e: Draft,
-) -> Result<Addition, Fault>
-    requires { (Ready cur job e ColumnCompared) × (cur.at + 4 ≤ length s.now) × (tables.now ≡ tables_in job) }
-    ensures { Judges cur job e (entry_at ColumnCompared s.now cur.at) result }
-{
-    let at = cur.at;
-    let op = s[at + 1];
-    if op > 4 {
-        return Err(Fault::UnknownOp);
-    }
-    let left = s[at + 2];
-    if !is_in_scope(tables, job, e, left) {
-        return Err(Fault::Undeclared);
-    }
-    let right = s[at + 3];
-    if !is_in_scope(tables, job, e, right) {
-        return Err(Fault::Undeclared);
-    }
-    let k = Comparison {
-        op: op,
-        left: left,
-        right: right + 1,
-        number: 0,
-    };
-    Ok(Addition::Compared(k))
-}
-
-// A command that has passed the checks 2 to 6.
-pub fn enter(
-    s: &[u8],
-    tables: &Tables,
-    cur: Cursor,
-    job: Job,
-    e: Draft,
-    c: Command,
-) -> Result<Addition, Fault>
-    requires { (Ready cur job e c) × (cur.at + 1 + operands c ≤ length s.now) × (tables.now ≡ tables_in job) }
-    ensures { Judges cur job e (entry_at c s.now cur.at) result }
-{
-    match c {
-        Command::NextTable => Ok(Addition::Table),
-        Command::NextColumn => next_column(s, cur, job, e),
-        Command::ExtractBegins => Ok(Addition::Nothing),
-        Command::QueryBegins => Ok(Addition::Nothing),
-        Command::TableUsed => table_used(s, cur, job, e),
-        Command::OutputColumn => output_column(s, tables, cur, job, e),
-        Command::NextClause => Ok(Addition::Clause),
-        Command::NumberCompared => number_compared(s, tables, cur, job, e),
-        Command::ColumnCompared => column_compared(s, tables, cur, job, e),
-        Command::End => Ok(Addition::Nothing),
+    match p {
+        Part::Used(t) => {
+            e.used[e.tables] = t;
+            e.tables += 1;
+        }
+        Part::Output(c) => {
+            e.outputs[e.width] = c;
+            e.width += 1;
+        }
+        // Past the last clause there are empty ones.
+        Part::Clause => e.condition.size += 1,
+        Part::Compared(k) => {
+            let clause = &mut e.condition.clauses[e.condition.size - 1];
+            clause.comparisons[clause.size] = k;
+            clause.size += 1;
+        }
     }
 }

@@ -17,9 +17,9 @@ use Rattle.layout.specs.Commands.{command_of, operands, entry_at}
 use Rattle.layout.specs.Reading.{State, Step, next, current, follows, has_room, has_operands, in_ranges, op_known, declared, is_new}
 use Rattle.layout.specs.Reading.{added, after, check, taken, step_of}
 use Rattle.commands.specs.declared.Cursor.{Cursor}
-use Rattle.commands.specs.declared.Draft.{Draft}
 use Rattle.commands.specs.declared.Addition.{Addition}
-use Rattle.commands.specs.Uses.{state_in, judge, entered_of, Fits, Judges}
+use Rattle.commands.specs.declared.Progress.{Progress}
+use Rattle.commands.specs.Uses.{state_of, judge, entered_of, Fits, Judges}
 use Rattle.reader.specs.Answers.{stepped_of}
 use Rattle.reader.specs.Uses.{Takes}
 
@@ -54,55 +54,55 @@ module _ (s : List ℕ) (at : ℕ) (st : State) (b : ℕ) (c : Command) where
       (in_ranges entry)
       (op_known entry) (declared st.job.tables (current st) entry) (is_new (current st) entry) refl)
 
-module _ (s : List ℕ) (cur : Cursor) (job : Job) (d : Draft) where
+module _ (s : List ℕ) (p : Progress) where
   abbrev at : ℕ
-  at = cur.at
+  at = p.cursor.at
 
   abbrev st : State
-  st = state_in cur job d
+  st = state_of p
 
-  pub step_none : length s ≤ at → Takes cur job d (step_of s at st) (Err (refusal_of 2 (length s)))
+  pub step_none : length s ≤ at → Takes p (step_of s at st) (Err (refusal_of 2 (length s)))
   unfolding step_of
   step_none h = record { told = rw (le-ltb at (length s) h); fits = tt }
 
-  pub step_unlisted : at < length s → command_of (get_or s at 0) ≡ None → Takes cur job d (step_of s at st) (Err (refusal_of 3 at))
+  pub step_unlisted : at < length s → command_of (get_or s at 0) ≡ None → Takes p (step_of s at st) (Err (refusal_of 3 at))
   unfolding step_of
   step_unlisted h n = record { told = rw (lt-ltb at (length s) h, n); fits = tt }
 
-  pub step_listed : (r : Result (Cursor × Addition) Refusal) (c : Command) → Takes cur job d (taken s at st (get_or s at 0) c) r → at < length s
-      → command_of (get_or s at 0) ≡ Some c → Takes cur job d (step_of s at st) r
+  pub step_listed : (r : Result (Cursor × Addition) Refusal) (c : Command) → Takes p (taken s at st (get_or s at 0) c) r → at < length s
+      → command_of (get_or s at 0) ≡ Some c → Takes p (step_of s at st) r
   unfolding step_of
   step_listed r c t h n = record { told = rw (lt-ltb at (length s) h, n) t.told; fits = t.fits }
 
   module _ (b : ℕ) (c : Command) where
-    pub not_due : follows st c ≡ false → Takes cur job d (taken s at st b c) (Err (refusal_of 4 at))
+    pub not_due : follows st c ≡ false → Takes p (taken s at st b c) (Err (refusal_of 4 at))
     unfolding taken
     not_due f = record { told = rw f; fits = tt }
 
-    pub no_room : follows st c ≡ true → has_room st c ≡ false → Takes cur job d (taken s at st b c) (Err (refusal_of 5 at))
+    pub no_room : follows st c ≡ true → has_room st c ≡ false → Takes p (taken s at st b c) (Err (refusal_of 5 at))
     unfolding taken
     no_room f g = record { told = rw (f, g); fits = tt }
 
     pub too_short : follows st c ≡ true → has_room st c ≡ true → has_operands s at c ≡ false
-        → Takes cur job d (taken s at st b c) (Err (refusal_of 6 at))
+        → Takes p (taken s at st b c) (Err (refusal_of 6 at))
     unfolding taken
     too_short f g k = record { told = rw (f, g, k); fits = tt }
 
     -- through the checks 7 to 10
-    module _ (j : Result Addition Fault) (is : Judges cur job d (entry_at c s at) j) (f : follows st c ≡ true) (g : has_room st c ≡ true)
+    module _ (j : Result Addition Fault) (is : Judges p (entry_at c s at) j) (f : follows st c ≡ true) (g : has_room st c ≡ true)
         (k : has_operands s at c ≡ true) where
       pub went_on : (x : Addition) (q : Bool) (n : ℕ) → j ≡ Ok x → q ≡ (st.in_query || eqb b 0x21) → n ≡ operands c
-          → Takes cur job d (taken s at st b c) (Ok (record { at = at + 1 + n; last = b; in_query = q }, x))
+          → Takes p (taken s at st b c) (Ok (record { at = at + 1 + n; last = b; in_query = q }, x))
       went_on x q n d o m =
           let added = rw d at is in
           record { told = rw (o, m) (step_entered s at st b c _ added.told f g k); fits = added.fits }
 
-      pub broke_off : (f : Fault) → j ≡ Err f → Takes cur job d (taken s at st b c) (Err (record { fault = f; at = at }))
+      pub broke_off : (f : Fault) → j ≡ Err f → Takes p (taken s at st b c) (Err (record { fault = f; at = at }))
       broke_off _ d =
           let fault = rw d at is in
           record { told = step_entered s at st b c _ fault.told f g k; fits = tt }
 
 -- there is room for what a command that was taken adds
-pub room_for : (x : Addition) {cur new : Cursor} {job : Job} {d : Draft} {st : Step} {r : Result (Cursor × Addition) Refusal} {y : Addition} → Takes cur job d st r
-    → r ≡ Ok (new, y) → y ≡ x → Fits job d x
-room_for x t p q = rw q at (rw p at t).fits
+pub room_for : (x : Addition) {p : Progress} {new : Cursor} {st : Step} {r : Result (Cursor × Addition) Refusal} {y : Addition} → Takes p st r
+    → r ≡ Ok (new, y) → y ≡ x → Fits p x
+room_for x t e f = rw f at (rw e at t).fits

@@ -1,110 +1,62 @@
 // Job bytes: reading them into a record, command after command.
 #![tactic(auto)]
 
-ghost use Rattle.std.specs.Prelude.{◌≡◌, cond, not, ◌<◌, length, get_or};
-ghost use Rattle.layout.specs.Reading.{taken, step_of, read_of};
-ghost use Rattle.commands.specs.Uses.{state_in, tables_in, Held};
+ghost use Rattle.std.specs.Prelude.{◌≡◌, ◌<◌, length};
+ghost use Rattle.layout.specs.Reading.{step_of, read_of};
+ghost use Rattle.commands.specs.Uses.{state_of, Held};
 ghost use Rattle.reader.specs.Answers.{decoded_of};
-ghost use Rattle.reader.specs.Uses.{Takes};
+ghost use Rattle.reader.specs.Uses.{refused_at, Takes};
 
-use commands::{Addition, Cursor, Draft, Tables};
+use commands::{Addition, Cursor, Progress};
 use job::Job;
-use layout::{Command, Fault, Refusal};
+use layout::{Fault, Refusal};
 
-// ---- Commands, one by one
-
-// A listed command, through the checks 4 to 10.
-fn take(
-    s: &[u8],
-    tables: &Tables,
-    cur: Cursor,
-    job: Job,
-    e: Draft,
-    c: Command,
-) -> Result<(Cursor, Addition), Refusal>
-    requires { (Held cur job e) × (cur.at < length s.now) × (tables.now ≡ tables_in job) }
-    ensures { Takes cur job e (taken s.now cur.at (state_in cur job e) (get_or s.now cur.at 0) c) result }
+// The command that stands at the cursor, through the checks 3 to 10: where the next one is due, and what it adds.
+fn take(s: &[u8], p: &Progress) -> Result<(Cursor, Addition), Fault>
+    requires { (Held p.now) × (p.now.cursor.at < length s.now) }
+    ensures { Takes p.now (step_of s.now p.now.cursor.at (state_of p.now)) (refused_at p.now.cursor.at result) }
 {
-    let at = cur.at;
+    let Cursor { at, last, in_query } = p.cursor;
+    let b = s[at];
+    let Some(c) = commands::command(b) else {
+        return Err(Fault::Unlisted);
+    };
+    if !commands::follows(c, last, in_query) {
+        return Err(Fault::OutOfOrder);
+    }
+    if !p.has_room(c) {
+        return Err(Fault::NoRoom);
+    }
     let n = commands::operands(c);
-    let due = commands::follows(c, cur.last, cur.in_query);
-    let room = commands::has_room(c, cur, job, e);
-    let whole = commands::has_bytes(s, at, n);
-    if !due {
-        return Err(Refusal {
-            fault: Fault::OutOfOrder,
-            at,
-        });
+    if !commands::has_bytes(s, at, n) {
+        return Err(Fault::NoOperands);
     }
-    if !room {
-        return Err(Refusal {
-            fault: Fault::NoRoom,
-            at,
-        });
-    }
-    if !whole {
-        return Err(Refusal {
-            fault: Fault::NoOperands,
-            at,
-        });
-    }
-    let judged = commands::enter(s, tables, cur, job, e, c);
-    match judged {
-        Ok(x) => {
-            let b = s[at];
-            let next = Cursor {
-                at: at + 1 + n,
-                last: b,
-                in_query: commands::has_begun(cur.in_query, b),
-            };
-            Ok((next, x))
-        }
-        Err(fault) => Err(Refusal { fault, at }),
-    }
+    let x = p.enter(s, c)?;
+    let next = Cursor {
+        at: at + 1 + n,
+        last: b,
+        in_query: commands::has_begun(in_query, b),
+    };
+    Ok((next, x))
 }
 
 // One command, through the checks 2 to 10.
-fn step(
-    s: &[u8],
-    tables: &Tables,
-    cur: Cursor,
-    job: Job,
-    e: Draft,
-) -> Result<(Cursor, Addition), Refusal>
-    requires { (Held cur job e) × (tables.now ≡ tables_in job) }
-    ensures { Takes cur job e (step_of s.now cur.at (state_in cur job e)) result }
+fn step(s: &[u8], p: &Progress) -> Result<(Cursor, Addition), Refusal>
+    requires { Held p.now }
+    ensures { Takes p.now (step_of s.now p.now.cursor.at (state_of p.now)) result }
 {
-    let at = cur.at;
+    let at = p.cursor.at;
     if at >= s.len() {
         return Err(Refusal {
             fault: Fault::Missing,
             at: s.len(),
         });
     }
-    let listed = commands::command(s[at]);
-    let Some(c) = listed else {
-        return Err(Refusal {
-            fault: Fault::Unlisted,
-            at,
-        });
-    };
-    take(s, tables, cur, job, e, c)
-}
-
-// ---- The whole job
-
-// Whether the query has begun by one of two commands, and not by the other.
-fn differ(a: bool, b: bool) -> bool
-    ensures { result ≡ cond a (not b) b }
-{
-    if a { !b } else { b }
+    take(s, p).map_err(|fault| Refusal { fault, at })
 }
 
 // The job that some bytes stand for, or the first thing that is wrong with them. A command takes a byte or more, so that there are as many
 // commands as bytes at most.
-//
-// What a command adds is stored here, in place, and nowhere else: tables and columns in the record, the rest in the draft, which is put
-// into the record as a whole where the query begins and where the job ends.
 pub fn read(s: &[u8]) -> Result<Job, Refusal>
     ensures { result ≡ decoded_of (read_of s.now) }
 {
@@ -114,61 +66,13 @@ pub fn read(s: &[u8]) -> Result<Job, Refusal>
             at: 0,
         });
     }
-    let mut cur = Cursor {
-        at: 4,
-        last: 0,
-        in_query: false,
-    };
-    let mut job = Job::empty();
-    let mut e = Draft::empty();
-    let mut tables = [0u8; Job::COLUMNS];
-    let mut i = 0;
-    while i < s.len() {
-        let took = step(s, &tables, cur, job, e);
+    let mut p = Progress::new();
+    for _ in 0..s.len() {
+        let took = step(s, &p);
         let Ok((next, x)) = took else {
             return Err(took.unwrap_err());
         };
-        match x {
-            Addition::Table => {
-                let n = job.tables;
-                job.tables = n + 1;
-            }
-            Addition::Column(k) => {
-                let n = job.width;
-                job.columns[n] = k;
-                tables[n] = k.table;
-                job.width = n + 1;
-            }
-            Addition::Nothing => {}
-            Addition::Used(t) => {
-                let n = e.tables;
-                e.used[n] = t;
-                e.tables = n + 1;
-            }
-            Addition::Output(c) => {
-                let n = e.width;
-                e.outputs[n] = c;
-                e.width = n + 1;
-            }
-            // The clause before it ends.
-            Addition::Clause => {
-                let n = e.size;
-                let at = commands::last_place(n);
-                e.clauses[at] = e.last_clause();
-                e.size = n + 1;
-                e.comparisons = 0;
-                e.last = commands::no_comparisons();
-            }
-            Addition::Compared(k) => {
-                let n = e.comparisons;
-                e.last[n] = k;
-                e.comparisons = n + 1;
-            }
-        }
-        if differ(cur.in_query, next.in_query) {
-            job.extract = e.expression();
-            e = Draft::empty();
-        }
+        p.go_on(next, x);
         if next.last == 0xFF {
             if next.at != s.len() {
                 return Err(Refusal {
@@ -176,11 +80,8 @@ pub fn read(s: &[u8]) -> Result<Job, Refusal>
                     at: next.at,
                 });
             }
-            job.query = e.expression();
-            return Ok(job);
+            return Ok(p.job);
         }
-        cur = next;
-        i += 1;
     }
     Err(Refusal {
         fault: Fault::Missing,

@@ -1,9 +1,9 @@
--- `commands::has_room` meets its contract. Assumes nothing.
+-- `Progress::has_room` meets its contract. Assumes nothing.
 use mathlib.Core.Path.{ap}
 use Prim.Native.Nat.{ℕ}
 use lib.Dec.{ltb}
-use Rattle.commands.proofs.Keeping.{tables_held, width_held, size_held, comparisons_held}
-use Rattle.commands.proofs.has_room.Goals as goal
+use Rattle.commands.proofs.Keeping.{tables_held, width_held, size_held}
+use Rattle.commands.proofs.Progress.has_room.Goals as goal
 
 pub returns-in-NextTable : goal.returns-in-NextTable
 returns-in-NextTable c = rw c.in-NextTable.is (ap (λ (n : ℕ). ltb n 4) (tables_held c.requires))
@@ -12,10 +12,10 @@ pub returns-in-NextColumn : goal.returns-in-NextColumn
 returns-in-NextColumn c = rw c.in-NextColumn.is (ap (λ (n : ℕ). ltb n 16) (width_held c.requires))
 
 pub returns-in-NextClause : goal.returns-in-NextClause
-returns-in-NextClause c = rw c.in-NextClause.is (ap (λ (n : ℕ). ltb n 4) (size_held c.requires))
+returns-in-NextClause c = rw (c.in-NextClause.is, c.current.ensures) (ap (λ (n : ℕ). ltb n 4) (size_held c.requires))
 
 pub returns-in-NumberCompared : goal.returns-in-NumberCompared
-returns-in-NumberCompared c = rw c.in-NumberCompared.is (ap (λ (n : ℕ). ltb n 6) (comparisons_held c.requires))
+returns-in-NumberCompared c = rw c.in-NumberCompared.is c.has_room_to_compare.ensures
 
 pub returns-in-ColumnCompared : goal.returns-in-ColumnCompared
-returns-in-ColumnCompared c = rw c.in-ColumnCompared.is (ap (λ (n : ℕ). ltb n 6) (comparisons_held c.requires))
+returns-in-ColumnCompared c = rw c.in-ColumnCompared.is c.has_room_to_compare-in-ColumnCompared.ensures

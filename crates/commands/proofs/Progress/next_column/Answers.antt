@@ -1,12 +1,13 @@
--- `commands::next_column` meets its contract. Assumes nothing.
+-- `Progress::next_column` meets its contract. Assumes nothing.
 use mathlib.Core.Path.{sym, ◌∙◌}
 use native.Mathlib.Omega.{arith}
 use borrow.Author.Rules.{sfits_of}
 use mir.Syntax.{w32}
 use mir.Facts.{to_z-of_z}
 use Rattle.commands.proofs.Tests.{bounds_are}
-use Rattle.commands.proofs.Entries.{some_tables, tables_few, not_bounds, add_column_lem}
-use Rattle.commands.proofs.next_column.Goals as goal
+use Rattle.commands.proofs.Keeping.{tables_few}
+use Rattle.commands.proofs.Entries.{some_tables, not_bounds, add_column_lem}
+use Rattle.commands.proofs.Progress.next_column.Goals as goal
 
 pub returns-then-not-are_bounds : goal.returns-then-not-are_bounds
 returns-then-not-are_bounds c =

@@ -1,21 +1,16 @@
--- `commands::column_compared` meets its contract. Assumes nothing.
+-- `Progress::column_compared` meets its contract. Assumes nothing.
 use mathlib.Core.Path.{refl, sym, ◌∙◌}
 use native.Mathlib.Omega.{arith}
-use Rattle.commands.proofs.Entries.{width_small, scope_known, scoped_below, no_op, left_out, right_out, add_columns}
-use Rattle.commands.proofs.column_compared.Goals as goal
+use Rattle.commands.proofs.Keeping.{width_small}
+use Rattle.commands.proofs.Entries.{scoped_below, no_op, left_out, right_out, add_columns}
+use Rattle.commands.proofs.Progress.column_compared.Goals as goal
 
 pub returns-then-op-gt4 : goal.returns-then-op-gt4
 returns-then-op-gt4 c = no_op c.requires.0.held _ _ _ refl c.if-op-gt4.true
 
-pub is_in_scope-requires : goal.is_in_scope-requires
-is_in_scope-requires c = let pre = c.requires in scope_known pre.0.held pre.2
-
 pub returns-then-not-is_in_scope : goal.returns-then-not-is_in_scope
 returns-then-not-is_in_scope c =
     left_out c.requires.0.held _ _ _ refl c.if-op-gt4.false (sym c.is_in_scope.ensures ∙ c.if-not-is_in_scope.true)
-
-pub is_in_scope-requires-2 : goal.is_in_scope-requires-2
-is_in_scope-requires-2 c = let pre = c.requires in scope_known pre.0.held pre.2
 
 pub returns-then-not-is_in_scope-2 : goal.returns-then-not-is_in_scope-2
 returns-then-not-is_in_scope-2 c =
