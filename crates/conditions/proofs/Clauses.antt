@@ -1,33 +1,19 @@
--- The comparisons of a clause's record and the clauses of a condition's, one by one. Assumes nothing.
+-- The clauses of a condition's record, one by one. Assumes nothing.
 use mathlib.Core.Path.{◌≡◌, ap, ◌∙◌}
-use mathlib.Core.List.{[]}
+use mathlib.Core.List.{List, []}
 use Prim.Native.Nat.{ℕ, ◌<◌, ◌≤◌}
 use native.Mathlib.Omega.{arith}
 use lib.ListN.{length, get_or, take, length-map, get_or-map}
+use Rattle.std.proofs.lemmas.List.{length-take}
 use lib.Seq.{length-take-le, get_or-take}
 use Rattle.base.specs.Lists.{all_of}
-use Rattle.base.proofs.Places.{all_at}
+use Rattle.base.proofs.Places.{all_at, map_at}
 use Rattle.job.specs.declared.Clause.{Clause}
 use Rattle.job.specs.declared.Condition.{Condition}
-use Rattle.job.specs.Record.{no_comparison, no_clause}
-use Rattle.job.specs.Meaning.{comparison_of, clause_of, condition_of}
+use Rattle.job.specs.Record.{no_clause}
+use Rattle.job.specs.Meaning.{clause_of, condition_of}
 use Rattle.solver.specs.Solver.{comparison_fits}
-use Rattle.solver.proofs.Progress.{Next}
 use Rattle.conditions.specs.Uses.{ClauseFits, ConditionFits}
-
-module _ (c : Clause) (fit : c.size ≤ length c.comparisons) (i : ℕ) where
-  size : length (clause_of c) ≡ c.size
-  size = length-map (take c.size c.comparisons) comparison_of ∙ length-take-le c.size c.comparisons fit
-
-  pub comparison_done : c.size ≤ i → length (clause_of c) ≤ i
-  comparison_done h = omega (arith, size)
-
-  pub comparison_next : i < c.size → Next (clause_of c) i (comparison_of (get_or c.comparisons i no_comparison))
-  comparison_next h = (
-    omega (arith, size),
-    get_or-map comparison_of (take c.size c.comparisons) i no_comparison
-        ∙ ap comparison_of (get_or-take c.size c.comparisons i no_comparison h),
-  )
 
 -- clause q
 abbrev pub clause_at : Condition → ℕ → Clause
@@ -59,6 +45,38 @@ module _ {n : ℕ} {k : Condition} (u : ConditionFits n k) (four : length k.clau
     small = u.small.comparisons q (omega (arith, u.small.clauses));
     fit = rw (clause_at_lem k few q h) at (all_at (all_of (comparison_fits n)) (condition_of k) q [] u.fit (clause_more_lem k few q h));
   }
+
+-- ---- the clauses of a condition as a slice of its record
+
+abbrev pub items : Condition → List Clause
+items k = take k.size k.clauses
+
+-- the one in place q
+abbrev pub item : Condition → ℕ → Clause
+item k q = get_or (items k) q (record { size = 0; comparisons = [] })
+
+module _ (k : Condition) (q : ℕ) where
+  pub items_done : length (items k) ≤ q → length (condition_of k) ≤ q
+  items_done h = omega (arith, length-map (items k) clause_of)
+
+  module _ (h : q < length (items k)) where
+    pub item_more : q < length (condition_of k)
+    item_more = omega (arith, length-map (items k) clause_of)
+
+    pub item_below : q < k.size
+    item_below = omega (arith, length-take k.size k.clauses)
+
+    pub item_is : item k q ≡ clause_at k q
+    item_is = get_or-take k.size k.clauses q (record { size = 0; comparisons = [] }) item_below
+
+    pub item_of : get_or (condition_of k) q [] ≡ clause_of (item k q)
+    item_of = map_at clause_of (items k) q (record { size = 0; comparisons = [] }) [] h
+
+    pub item_fits : {n : ℕ} → ConditionFits n k → ClauseFits n (item k q)
+    item_fits {n} u = record {
+      small = rw item_is (u.small.comparisons q (omega (arith, item_below, u.small.clauses)));
+      fit = rw item_of at (all_at (all_of (comparison_fits n)) (condition_of k) q [] u.fit item_more);
+    }
 
 -- and so does the clause that asks nothing
 pub nothing_fits : (n : ℕ) → ClauseFits n no_clause

@@ -1,6 +1,6 @@
 -- Clauses imposed on a copy of a zone: what is answered and left, by two clauses and by one. Assumes nothing.
 use mathlib.Core.Path.{◌≡◌, refl, sym, ap, ◌∙◌}
-use mathlib.Core.Bool.{Bool, true, false, not, false≢true}
+use mathlib.Core.Bool.{Bool, true, false, false≢true}
 use mathlib.Core.List.{List, ◌++◌}
 use mathlib.Core.Option.{Option, none, some, none-ne-some, some-injective}
 use Prim.Native.Nat.{ℕ, suc, ◌+◌, ◌*◌, ◌≤◌}
@@ -9,7 +9,6 @@ use native.Mathlib.Numerals.{add-one}
 use lib.ListN.{length}
 use lib.Dec.{T}
 use mir.Facts.{yes_and}
-use borrow.Author.Tests.{not-true, not-false}
 use Rattle.base.specs.Lists.{all_of}
 use Rattle.base.specs.Options.{is_some}
 use Rattle.base.proofs.Lists.{all_append}
@@ -124,9 +123,9 @@ module _ {n : ℕ} {z to : List ℕ} {c e : Clause} (u : LaysPair n z c e to) wh
     -- r and y are what the first clause answers and leaves
     module _ {r : Bool} {y : List ℕ} (told : r ≡ is_some (imposed_all (zone_in (n + 1) x) (clause_of c)))
         (left : y ≡ laid x (reached (zone_in (n + 1) x) (clause_of c))) where
-      pub pair_none : not r ≡ true → Paired n z c e false y
+      pub pair_none : r ≡ false → Paired n z c e false y
       pair_none no_row =
-          let nothing : imposed_all (zone_in (n + 1) z) (clause_of c) ≡ none = rw there at (none_of (imposed_all (zone_in (n + 1) x) (clause_of c)) told (not-true r no_row)) in (
+          let nothing : imposed_all (zone_in (n + 1) z) (clause_of c) ≡ none = rw there at (none_of (imposed_all (zone_in (n + 1) x) (clause_of c)) told no_row) in (
             rw (imposed_append (zone_in (n + 1) z) (clause_of c) (clause_of e), nothing),
             left_zone n in_copy (clause_of c) u.first.fit left ∙ rw there (sym (reached_first (zone_in (n + 1) z) (clause_of c) (clause_of e) nothing)),
           )
@@ -134,10 +133,10 @@ module _ {n : ℕ} {z to : List ℕ} {c e : Clause} (u : LaysPair n z c e to) wh
       pub second_asks : ImposesClause n y e
       second_asks = record { in_array = left_in_array n in_copy (clause_of c) u.first.fit left; clause = u.second }
 
-      pub pair_second : not r ≡ false → {s : Bool} {v : List ℕ} → (s ≡ is_some (imposed_all (zone_in (n + 1) y) (clause_of e)))
+      pub pair_second : r ≡ true → {s : Bool} {v : List ℕ} → (s ≡ is_some (imposed_all (zone_in (n + 1) y) (clause_of e)))
           × (v ≡ laid y (reached (zone_in (n + 1) y) (clause_of e))) → Paired n z c e s v
       pair_second some_row (told-2, left-2) =
-          let (w, is) = some_of (imposed_all (zone_in (n + 1) x) (clause_of c)) told (not-false r some_row) in
+          let (w, is) = some_of (imposed_all (zone_in (n + 1) x) (clause_of c)) told some_row in
           let first : imposed_all (zone_in (n + 1) z) (clause_of c) ≡ some w =
           ap (λ (v : Zone). imposed_all v (clause_of c)) (sym there) ∙ is in
           let at-w : zone_in (n + 1) y ≡ w = left_zone n in_copy (clause_of c) u.first.fit left ∙ reached_is (zone_in (n + 1) x) (clause_of c) w is in (

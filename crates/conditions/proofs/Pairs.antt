@@ -23,38 +23,37 @@ use Rattle.zone.specs.Uses.{InArray}
 use Rattle.solver.specs.Solver.{imposed_all}
 use Rattle.conditions.specs.Meeting.{pairs_of, both}
 use Rattle.conditions.specs.Uses.{ConditionFits, LaysPair, Meeting}
-use Rattle.conditions.proofs.Clauses.{clause_at, condition_length, clause_done, clause_more_lem, clause_at_lem, few, clause_fits, nothing_fits}
+use Rattle.conditions.proofs.Clauses.{clause_at, condition_length, clause_more_lem, clause_at_lem, few, clause_fits, nothing_fits, items, item, items_done, item_more, item_of, item_fits}
 use Rattle.conditions.proofs.Meeting.{Paired, pair_nothing, pair_found}
 
 -- ---- the clauses of one condition: what is left from clause q on gives o
-module _ (k : Condition) (few : k.size ≤ length k.clauses) (f : model.Clause → Option Zone) (q : ℕ) {o : Option Zone}
-    (left : first_of (drop q (condition_of k)) f ≡ o) where
-  pub no_clause_lem : k.size ≤ q → o ≡ none
-  no_clause_lem h = first_none f [] (condition_of k) q left (clause_done k few q h)
+module _ (k : Condition) (f : model.Clause → Option Zone) (q : ℕ) {o : Option Zone} (left : first_of (drop q (condition_of k)) f ≡ o) where
+  pub no_clause_lem : length (items k) ≤ q → o ≡ none
+  no_clause_lem h = first_none f [] (condition_of k) q left (items_done k q h)
 
-  module _ (h : q < k.size) where
-    pub next_clause : f (clause_of (clause_at k q)) ≡ none → first_of (drop (q + 1) (condition_of k)) f ≡ o
-    next_clause e = first_more f [] (condition_of k) q left (clause_more_lem k few q h) (rw (clause_at_lem k few q h) e)
+  module _ (h : q < length (items k)) where
+    pub next_clause : f (clause_of (item k q)) ≡ none → first_of (drop (q + 1) (condition_of k)) f ≡ o
+    next_clause e = first_more f [] (condition_of k) q left (item_more k q h) (rw (item_of k q h) e)
 
-    pub this_clause : {y : Zone} → f (clause_of (clause_at k q)) ≡ some y → o ≡ some y
-    this_clause e = first_found f [] (condition_of k) q left (clause_more_lem k few q h) (rw (clause_at_lem k few q h) e)
+    pub this_clause : {y : Zone} → f (clause_of (item k q)) ≡ some y → o ≡ some y
+    this_clause e = first_found f [] (condition_of k) q left (item_more k q h) (rw (item_of k q h) e)
 
 -- ---- clause q of one condition, paired with the clause that asks nothing; r and y are what laying both answers and leaves
-module _ {n : ℕ} {z to : List ℕ} {k : Condition} (u : Meeting n z k to) (four : length k.clauses ≡ 4) {c : Clause} (is : c ≡ no_clause)
-    {q : ℕ} (h : q < k.size) (out : List ℕ) (same : length out ≡ length to) where
-  pub one_asks : LaysPair n z c (clause_at k q) out
+module _ {n : ℕ} {z to : List ℕ} {k : Condition} (u : Meeting n z k to) {c : Clause} (is : c ≡ no_clause)
+    {q : ℕ} (h : q < length (items k)) (out : List ℕ) (same : length out ≡ length to) where
+  pub one_asks : LaysPair n z c (item k q) out
   one_asks = record {
     in_array = u.in_array;
     first = rw is (nothing_fits n);
-    second = clause_fits u.condition four h;
+    second = item_fits k q h u.condition;
     room = omega (arith, same, u.room);
   }
 
-  module _ {r : Bool} (y : List ℕ) (laid : Paired n z c (clause_at k q) r y) where
-    pub one_none : r ≡ false → imposed_all (zone_in (n + 1) z) (clause_of (clause_at k q)) ≡ none
+  module _ {r : Bool} (y : List ℕ) (laid : Paired n z c (item k q) r y) where
+    pub one_none : r ≡ false → imposed_all (zone_in (n + 1) z) (clause_of (item k q)) ≡ none
     one_none no_row = rw is at (pair_nothing one_asks laid.0 no_row)
 
-    pub one_found_lem : length y ≡ length out → r ≡ true → imposed_all (zone_in (n + 1) z) (clause_of (clause_at k q)) ≡ some (zone_in (n + 1) y)
+    pub one_found_lem : length y ≡ length out → r ≡ true → imposed_all (zone_in (n + 1) z) (clause_of (item k q)) ≡ some (zone_in (n + 1) y)
     one_found_lem kept some_row = rw is at (pair_found one_asks laid kept some_row).is
 
 -- ---- pairs of clauses

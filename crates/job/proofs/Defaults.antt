@@ -28,7 +28,7 @@ column_is x h =
     let a = h.0 in let b = h.1.0 in let c = h.1.1 in
     let all : ◌≡◌ {A = Column} (record { table = x.table; lo = x.lo; hi = x.hi }) no_column = cc in all
 
-abbrev IsComparison : Comparison → Type 0
+abbrev pub IsComparison : Comparison → Type 0
 IsComparison x = (x.op ≡ 0) × ((x.left ≡ 0) × ((x.right ≡ 0) × (x.number ≡ pos 0)))
 
 comparison_is : (x : Comparison) → IsComparison x → x ≡ no_comparison
@@ -36,10 +36,10 @@ comparison_is x h =
     let a = h.0 in let b = h.1.0 in let c = h.1.1.0 in let d = h.1.1.1 in
     let all : ◌≡◌ {A = Comparison} (record { op = x.op; left = x.left; right = x.right; number = x.number }) no_comparison = cc in all
 
-abbrev IsClause : Clause → Type 0
+abbrev pub IsClause : Clause → Type 0
 IsClause x = (x.size ≡ 0) × AllOfLen IsComparison x.comparisons 6
 
-clause_is : (x : Clause) → IsClause x → x ≡ no_clause
+pub clause_is : (x : Clause) → IsClause x → x ≡ no_clause
 clause_is x h =
     let a = h.0 in
     let b = filled no_comparison comparison_is x.comparisons 6 h.1 in

@@ -2,4 +2,4 @@
 use Rattle.conditions.proofs.always.Goals as goal
 
 pub returns : goal.returns
-returns c = rw c.nothing-clause.ensures
+returns c = rw c.nothing.ensures
