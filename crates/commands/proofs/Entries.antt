@@ -24,12 +24,12 @@ use Rattle.job.specs.declared.Condition.{Condition}
 use Rattle.job.specs.declared.Expression.{Expression}
 use Rattle.job.specs.declared.Job.{Job}
 use Rattle.job.specs.Meaning.{column_record, comparison_record, condition_record, expression_record, record_of, meaning_of}
-use Rattle.layout.specs.Commands.{in_condition, add_table, add_column, mark, use_table, add_output, add_clause, add_comparison}
+use Rattle.layout.specs.Commands.{in_condition, add_table, add_column, use_table, add_output, add_clause, add_comparison}
 use Rattle.layout.specs.Reading.{current, above_last, with_condition, with_current}
 use Rattle.layout.proofs.Growing.{either}
 use Rattle.words.proofs.Ops.{op_back}
 use Rattle.layout.proofs.Rooms.{used_room, outputs_room}
-use Rattle.commands.specs.declared.Addition.TheVariants.{Table as TableAdded, Column as ColumnAdded, Part as PartAdded, Nothing}
+use Rattle.commands.specs.declared.Addition.TheVariants.{Table as TableAdded, Column as ColumnAdded, Part as PartAdded}
 use Rattle.commands.specs.declared.Part.TheVariants.{Used, Output, Clause as ClauseAdded, Compared}
 use Rattle.commands.specs.declared.Progress.{Progress}
 use Rattle.std.specs.Prelude.{Ok, Err}
@@ -80,9 +80,6 @@ module _ {p : Progress} (h : Held p) where
     told = ap Ok (ap table_more h.laid ∙ table_laid so_far);
     fits = omega (arith, tables_held h, ltb-true (length ts) 4 f);
   }
-
-  pub add_mark : (b : ℕ) → Judges p (mark b) (Ok Nothing)
-  add_mark b = record { told = ap Ok h.laid; fits = tt }
 
   pub not_bounds : (lo hi : ℤ) → bounds_fit lo hi ≡ false → Judges p (add_column lo hi) (Err OutOfRange)
   not_bounds lo hi f = record { told = rw f; fits = tt }

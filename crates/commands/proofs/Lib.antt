@@ -1,5 +1,4 @@
 pub mod Tests
-pub mod Bytes
 pub mod Laid
 pub mod Looks
 pub mod Keeping

@@ -42,6 +42,7 @@ pub fn is_start(s: &[u8]) -> bool
 }
 
 // The command that a byte stands for.
+#[tactic(auto, unfolding(layout::specs::Commands::command_of))]
 pub fn command(b: u8) -> Option<Command>
     ensures { result ≡ command_of b }
 {
@@ -79,19 +80,19 @@ pub fn operands(c: Command) -> usize
 {
     match c {
         Command::NextColumn => 8,
-        Command::TableUsed => 1,
-        Command::OutputColumn => 1,
+        Command::TableUsed | Command::OutputColumn => 1,
         Command::NumberCompared => 6,
         Command::ColumnCompared => 3,
-        Command::NextTable => 0,
-        Command::ExtractBegins => 0,
-        Command::QueryBegins => 0,
-        Command::NextClause => 0,
-        Command::End => 0,
+        Command::NextTable
+        | Command::ExtractBegins
+        | Command::QueryBegins
+        | Command::NextClause
+        | Command::End => 0,
     }
 }
 
-// Whether a command may come after the last one. That one is told by its byte, which is 0 at the start, where there is none.
+// Whether a command may come after the last one, which is told by its byte, 0 at the start. Any byte may be asked about: a caller need not
+// make an Option<Command> of it.
 pub fn follows(c: Command, last: u8, in_query: bool) -> bool
     ensures { result ≡ any_of (eqb last) (before in_query c) }
 {
@@ -103,8 +104,7 @@ pub fn follows(c: Command, last: u8, in_query: bool) -> bool
         Command::TableUsed => matches!(last, 0x20 | 0x21 | 0x30),
         Command::OutputColumn => matches!(last, 0x30 | 0x31),
         Command::NextClause => is_ending(last),
-        Command::NumberCompared => is_in_condition(last),
-        Command::ColumnCompared => is_in_condition(last),
+        Command::NumberCompared | Command::ColumnCompared => is_in_condition(last),
         Command::End => in_query && is_ending(last),
     }
 }
@@ -204,14 +204,13 @@ impl Progress {
         match c {
             Command::NextTable => self.job.tables < Job::TABLES,
             Command::NextColumn => self.job.width < Job::COLUMNS,
-            Command::ExtractBegins => true,
-            Command::QueryBegins => true,
-            Command::TableUsed => true,
-            Command::OutputColumn => true,
             Command::NextClause => self.current().condition.size < Job::CLAUSES,
-            Command::NumberCompared => self.has_room_to_compare(),
-            Command::ColumnCompared => self.has_room_to_compare(),
-            Command::End => true,
+            Command::NumberCompared | Command::ColumnCompared => self.has_room_to_compare(),
+            Command::ExtractBegins
+            | Command::QueryBegins
+            | Command::TableUsed
+            | Command::OutputColumn
+            | Command::End => true,
         }
     }
 
@@ -366,14 +365,12 @@ impl Progress {
         match c {
             Command::NextTable => Ok(Addition::Table),
             Command::NextColumn => self.next_column(s),
-            Command::ExtractBegins => Ok(Addition::Nothing),
-            Command::QueryBegins => Ok(Addition::Nothing),
             Command::TableUsed => self.table_used(s),
             Command::OutputColumn => self.output_column(s),
             Command::NextClause => Ok(Addition::Part(Part::Clause)),
             Command::NumberCompared => self.number_compared(s),
             Command::ColumnCompared => self.column_compared(s),
-            Command::End => Ok(Addition::Nothing),
+            Command::ExtractBegins | Command::QueryBegins | Command::End => Ok(Addition::Nothing),
         }
     }
 

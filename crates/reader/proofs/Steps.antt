@@ -19,7 +19,7 @@ use Rattle.layout.specs.Reading.{added, after, check, taken, step_of}
 use Rattle.commands.specs.declared.Cursor.{Cursor}
 use Rattle.commands.specs.declared.Addition.{Addition}
 use Rattle.commands.specs.declared.Progress.{Progress}
-use Rattle.commands.specs.Uses.{state_of, judge, entered_of, Fits, Judges}
+use Rattle.commands.specs.Uses.{state_of, judge, entered_of, Judges}
 use Rattle.reader.specs.Answers.{stepped_of}
 use Rattle.reader.specs.Uses.{Takes}
 
@@ -101,8 +101,3 @@ module _ (s : List ℕ) (p : Progress) where
       broke_off _ d =
           let fault = rw d at is in
           record { told = step_entered s at st b c _ fault.told f g k; fits = tt }
-
--- there is room for what a command that was taken adds
-pub room_for : (x : Addition) {p : Progress} {new : Cursor} {st : Step} {r : Result (Cursor × Addition) Refusal} {y : Addition} → Takes p st r
-    → r ≡ Ok (new, y) → y ≡ x → Fits p x
-room_for x t e f = rw f at (rw e at t).fits

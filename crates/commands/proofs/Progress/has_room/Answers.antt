@@ -1,5 +1,6 @@
 -- `Progress::has_room` meets its contract. Assumes nothing.
 use mathlib.Core.Path.{ap}
+use mathlib.Core.Logic.{inl, inr}
 use Prim.Native.Nat.{ℕ}
 use lib.Dec.{ltb}
 use Rattle.commands.proofs.Keeping.{tables_held, width_held, size_held}
@@ -15,7 +16,7 @@ pub returns-in-NextClause : goal.returns-in-NextClause
 returns-in-NextClause c = rw (c.in-NextClause.is, c.current.ensures) (ap (λ (n : ℕ). ltb n 4) (size_held c.requires))
 
 pub returns-in-NumberCompared : goal.returns-in-NumberCompared
-returns-in-NumberCompared c = rw c.in-NumberCompared.is c.has_room_to_compare.ensures
-
-pub returns-in-ColumnCompared : goal.returns-in-ColumnCompared
-returns-in-ColumnCompared c = rw c.in-ColumnCompared.is c.has_room_to_compare-in-ColumnCompared.ensures
+returns-in-NumberCompared c = elim c.in-NumberCompared.is [
+  | inl e ↦ rw e c.has_room_to_compare.ensures
+  | inr e ↦ rw e c.has_room_to_compare.ensures
+]
