@@ -1,29 +1,29 @@
 -- Laws of the looks at clauses that are still to be broken. Assumes nothing.
 use mathlib.Core.Path.{◌≡◌, sym, ◌∙◌}
-use mathlib.Core.Bool.{Bool, true, false, not}
+use mathlib.Core.Bool.{Bool, true, false}
 use mathlib.Core.List.{List, []}
-use Prim.Native.Nat.{ℕ, ◌+◌, ◌*◌, ◌<◌, ◌≤◌}
+use Prim.Native.Nat.{ℕ, ◌+◌, ◌<◌, ◌≤◌}
 use native.Mathlib.Omega.{arith}
 use lib.ListN.{length, get_or, drop}
-use borrow.Author.Tests.{not-true, not-false}
 use Rattle.base.specs.Lists.{at, all_of}
+use Rattle.base.proofs.Places.{element}
 use Rattle.base.proofs.Turns.{all_fails, all_more, all_done}
 use Rattle.zone.specs.declared.Constraint.{Constraint}
 use Rattle.zone.specs.Zone.{Zone}
 use Rattle.zone.specs.Uses.{Follows}
 use Rattle.breaking.specs.declared.Choices.{Choices}
 use Rattle.breaking.specs.Breaking.{breakable}
-use Rattle.breaking.specs.Places.{way_in, ways_in, choices_in, in_order}
-use Rattle.breaking.specs.Uses.{LooksAfter, Order, LooksAhead}
+use Rattle.breaking.specs.Places.{ways_in, clause_ways, choices_in, in_order}
+use Rattle.breaking.specs.Uses.{LooksAfter, LooksAhead}
 use Rattle.breaking.proofs.Clauses.{order_length, order_at}
 
--- ---- The ways of one clause
+-- ---- The ways of one clause; none stands for what is past the end
 
-pub after_asks : {n : ℕ} {d : List ℕ} {c e : Constraint} {ws : List ℕ} {from count i : ℕ} → LooksAfter n d c ws from count → i < count
-    → e ≡ way_in ws (from + 3 * i) → Follows n d c e
-after_asks {i = i} u more way =
-    let fits = u.ways.each i more in
-    rw way record {
+pub after_asks : {n : ℕ} {d : List ℕ} {c : Constraint} {ws : List Constraint} (none : Constraint) {i : ℕ} → LooksAfter n d c ws → i < length ws
+    → Follows n d c (get_or ws i none)
+after_asks {ws = ws} none {i} u more =
+    let fits = u.ways (get_or ws i none) (element ws i none more) in
+    record {
       first = u.first;
       second = record {
         in_array = u.first.asked.in_array;
@@ -35,24 +35,23 @@ after_asks {i = i} u more way =
 
 -- ---- The clauses from place i of the order on; r is what the look at the clause there says
 
-pub ahead_asks : {n : ℕ} {d : List ℕ} {c : Constraint} {k : Choices} {ws o : List ℕ} (i : ℕ) → LooksAhead n d c k ws o → i < 4
-    → LooksAfter n d c ws (36 * at o i) (at k.sizes (at o i))
-ahead_asks {o = o} i u h = record { first = u.first; ways = u.choices (at o i) (u.order i h) }
+pub ahead_asks : {n : ℕ} {d : List ℕ} {c : Constraint} {k : Choices} {o : List ℕ} {i : ℕ} → LooksAhead n d c k o → i < length o
+    → LooksAfter n d c (ways_in (clause_ways k (at o i)))
+ahead_asks {o = o} {i} u h = record { first = u.first; ways = u.choices.each (at o i) (u.rest i h) }
 
-module _ (z : Zone) (k : Choices) (ws o : List ℕ) (four : length o ≡ 4) (i : ℕ) {b : Bool}
-    (left : all_of (breakable z) (drop i (in_order o (choices_in k ws))) ≡ b) where
-  module _ {r : Bool} (order : Order o) (here : i < 4) (look : r ≡ breakable z (ways_in ws (36 * at o i) (at k.sizes (at o i)))) where
-    is_next : breakable z (get_or (in_order o (choices_in k ws)) i []) ≡ r
-    is_next = rw (order_at k ws o four order i here) (sym look)
+module _ (z : Zone) (k : Choices) (o : List ℕ) (i : ℕ) {b : Bool} (left : all_of (breakable z) (drop i (in_order o (choices_in k))) ≡ b) where
+  module _ {r : Bool} (here : i < length o) (look : r ≡ breakable z (ways_in (clause_ways k (at o i)))) where
+    is_next : breakable z (get_or (in_order o (choices_in k)) i []) ≡ r
+    is_next = rw (order_at k o i here) (sym look)
 
-    there : i < length (in_order o (choices_in k ws))
-    there = omega (arith, order_length k ws o four)
+    there : i < length (in_order o (choices_in k))
+    there = omega (arith, order_length k o)
 
-    pub clause_met : not r ≡ true → false ≡ b
-    clause_met h = all_fails (breakable z) [] (in_order o (choices_in k ws)) i left there (is_next ∙ not-true r h)
+    pub clause_met : r ≡ false → false ≡ b
+    clause_met h = all_fails (breakable z) [] (in_order o (choices_in k)) i left there (is_next ∙ h)
 
-    pub clause_open : not r ≡ false → all_of (breakable z) (drop (i + 1) (in_order o (choices_in k ws))) ≡ b
-    clause_open h = all_more (breakable z) [] (in_order o (choices_in k ws)) i left there (is_next ∙ not-false r h)
+    pub clause_open : r ≡ true → all_of (breakable z) (drop (i + 1) (in_order o (choices_in k))) ≡ b
+    clause_open h = all_more (breakable z) [] (in_order o (choices_in k)) i left there (is_next ∙ h)
 
-  pub clauses_open : 4 ≤ i → true ≡ b
-  clauses_open past = all_done (breakable z) [] (in_order o (choices_in k ws)) i left (omega (arith, order_length k ws o four))
+  pub clauses_open : length o ≤ i → true ≡ b
+  clauses_open past = all_done (breakable z) [] (in_order o (choices_in k)) i left (omega (arith, order_length k o))

@@ -1,13 +1,12 @@
 -- Laws of one choice: the rows of a zone that obey one constraint more. Assumes nothing.
-use mathlib.Core.Path.{◌≡◌, refl, ◌∙◌}
-use mathlib.Core.Bool.{Bool, true, false, not, cond, ◌&&◌}
+use mathlib.Core.Path.{◌≡◌, refl, sym, ◌∙◌}
+use mathlib.Core.Bool.{Bool, true, false, cond, ◌&&◌}
 use mathlib.Core.Option.{none, some, none-ne-some, some-injective}
 use mathlib.Core.List.{List}
 use Prim.Native.Nat.{ℕ, ◌<◌}
 use native.Mathlib.Omega.{arith}
 use lib.ListN.{length}
 use Rattle.base.specs.Lists.{all_of}
-use Rattle.base.proofs.Tests.{passed, failed}
 use Rattle.zone.specs.declared.Constraint.{Constraint}
 use Rattle.zone.specs.Zone.{Zone, Closed, allows, tightened, constrained, kept}
 use Rattle.zone.specs.Array.{zone_in, laid, copied}
@@ -18,8 +17,7 @@ use Rattle.zone.proofs.Ranges.{in_zone}
 use Rattle.zone.proofs.Closed.{tight_length, tight_closed}
 use Rattle.breaking.specs.declared.Choices.{Choices}
 use Rattle.breaking.specs.Breaking.{breakable, chosen}
-use Rattle.breaking.specs.Places.{way_in}
-use Rattle.breaking.specs.Uses.{Fits, LooksAhead, Chooses}
+use Rattle.breaking.specs.Uses.{LooksAhead, Chooses}
 use Rattle.conditions.proofs.Meeting.{Found, some_of, Ends, ends_none, ends_some}
 
 -- ---- What is chosen
@@ -46,16 +44,12 @@ module _ (z : Zone) (c : Constraint) (rest : List (List Constraint)) where
 
 -- ---- What `choose` does with a way, which is c
 
-module _ {n : ℕ} {from to : List ℕ} {p : ℕ} {k : Choices} {ws o : List ℕ} (u : Chooses n from to p k ws o)
-    {c : Constraint} (way : c ≡ way_in ws p) where
+module _ {n : ℕ} {from to : List ℕ} {c : Constraint} {k : Choices} {o : List ℕ} (u : Chooses n from to c k o) where
   abbrev z : Zone
   z = zone_in n from
 
-  fits : Fits n c
-  fits = rw way u.way
-
   pub way_asks : {d : List ℕ} → InArray n d → Constrains n d c
-  way_asks a = record { in_array = a; left_in = fits.left_in; right_in = fits.right_in; most_fits = fits.most_fits }
+  way_asks a = record { in_array = a; left_in = u.way.left_in; right_in = u.way.right_in; most_fits = u.way.most_fits }
 
   pub constrain_asks : {e : List ℕ} → e ≡ copied n from to → Constrains n e c
   constrain_asks copy = way_asks (rw copy (copied_in_array to u.in_array u.room))
@@ -63,10 +57,10 @@ module _ {n : ℕ} {from to : List ℕ} {p : ℕ} {k : Choices} {ws o : List ℕ
   -- a zone with one constraint more
   module _ (h : allows (zone_in n from) c ≡ true) where
     left_in : c.left < length z
-    left_in = in_zone u.in_array fits.left_in
+    left_in = in_zone u.in_array u.way.left_in
 
     right_in : c.right < length z
-    right_in = in_zone u.in_array fits.right_in
+    right_in = in_zone u.in_array u.way.right_in
 
     tight_size : length (tightened z c) ≡ n
     tight_size = tight_length z c u.in_array.closed left_in right_in (rw h tt) ∙ zone_length n from
@@ -76,46 +70,46 @@ module _ {n : ℕ} {from to : List ℕ} {p : ℕ} {k : Choices} {ws o : List ℕ
 
   -- l is what the look at the zone says, s what the look ahead says
   module _ {l : Bool} (look : l ≡ allows (zone_in n from) c) where
-    pub none_obeys : (rest : List (List Constraint)) (e : List ℕ) → not l ≡ true
-        → Ends n (chosen (zone_in n from) (way_in ws p) rest) false e
-    none_obeys rest e h = rw (← way) (ends_none n e (chosen_none z c rest (rw (failed look h))))
+    pub none_obeys : (rest : List (List Constraint)) (e : List ℕ) → l ≡ false
+        → Ends n (chosen (zone_in n from) c rest) false e
+    none_obeys rest e h = (ends_none n e (chosen_none z c rest (rw (sym look ∙ h))))
 
-    module _ (h : not l ≡ false) where
-      pub open_asks : LooksAhead n from c k ws o
+    module _ (h : l ≡ true) where
+      pub open_asks : LooksAhead n from c k o
       open_asks = record {
-        first = record { asked = way_asks u.in_array; allowed = rw (passed look h) tt };
+        first = record { asked = way_asks u.in_array; allowed = rw (sym look ∙ h) tt };
         choices = u.choices;
-        order = u.order;
+        rest = u.rest;
       }
 
       module _ (rest : List (List Constraint)) {s : Bool} (ahead : s ≡ all_of (breakable (tightened (zone_in n from) c)) rest) where
-        pub none_ahead : (e : List ℕ) → not s ≡ true → Ends n (chosen (zone_in n from) (way_in ws p) rest) false e
-        none_ahead e g = rw (← way) (ends_none n e (chosen_none z c rest (rw (passed look h, failed ahead g))))
+        pub none_ahead : (e : List ℕ) → s ≡ false → Ends n (chosen (zone_in n from) c rest) false e
+        none_ahead e g = (ends_none n e (chosen_none z c rest (rw (sym look ∙ h, sym ahead ∙ g))))
 
-        pub lays : {e f : List ℕ} → not s ≡ false → e ≡ copied n from to → f ≡ laid e (kept (zone_in n e) (constrained (zone_in n e) c))
-            → Ends n (chosen (zone_in n from) (way_in ws p) rest) true f
+        pub lays : {e f : List ℕ} → s ≡ true → e ≡ copied n from to → f ≡ laid e (kept (zone_in n e) (constrained (zone_in n e) c))
+            → Ends n (chosen (zone_in n from) c rest) true f
         unfolding constrained
         lays {e} {f} g copy done =
-            let some_row : allows z c ≡ true = passed look h in
+            let some_row : allows z c ≡ true = sym look ∙ h in
             let same : zone_in n e ≡ z = rw copy (zone_copied n from to u.in_array.small u.room) in
             let a = (constrain_asks copy).in_array in
             let lies : zone_in n f ≡ tightened z c =
             rw (done, same, some_row) (laid_is n e (tightened z c) a.room a.small (tight_zone some_row) (tight_size some_row)) in
-            rw (← way) (ends_some n f (rw lies (chosen_some z c rest (rw (some_row, passed ahead g)))))
+            (ends_some n f (rw lies (chosen_some z c rest (rw (some_row, sym ahead ∙ g)))))
 
 -- a zone that was chosen
-pub chosen_found : {n : ℕ} {from to : List ℕ} {p : ℕ} {k : Choices} {ws o : List ℕ} → Chooses n from to p k ws o
-    → (rest : List (List Constraint)) {r : Bool} {e : List ℕ} → Ends n (chosen (zone_in n from) (way_in ws p) rest) r e
-    → length e ≡ length to → r ≡ true → Found n (chosen (zone_in n from) (way_in ws p) rest) e
-chosen_found {n} {from} {p = p} {ws = ws} u rest (answer, lies) size some_row =
-    let (y, is) = some_of (chosen (zone_in n from) (way_in ws p) rest) answer some_row in
-    let (allowed, tight) = chosen_from (zone_in n from) (way_in ws p) rest is in
+pub chosen_found : {n : ℕ} {from to : List ℕ} {c : Constraint} {k : Choices} {o : List ℕ} → Chooses n from to c k o
+    → (rest : List (List Constraint)) {r : Bool} {e : List ℕ} → Ends n (chosen (zone_in n from) c rest) r e
+    → length e ≡ length to → r ≡ true → Found n (chosen (zone_in n from) c rest) e
+chosen_found {n} {from} {c = c} u rest (answer, lies) size some_row =
+    let (y, is) = some_of (chosen (zone_in n from) c rest) answer some_row in
+    let (allowed, tight) = chosen_from (zone_in n from) c rest is in
     let there = lies y is in
     record {
       is = rw there is;
       in_array = record {
         room = omega (arith, u.room);
         small = u.in_array.small;
-        closed = rw (there, ← tight) (tight_zone u refl allowed);
+        closed = rw (there, ← tight) (tight_zone u allowed);
       };
     }

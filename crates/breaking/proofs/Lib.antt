@@ -1,4 +1,3 @@
-pub mod Ways
 pub mod Clauses
 pub mod Once
 pub mod Sizes

@@ -14,9 +14,10 @@ use Rattle.job.specs.declared.Clause.{Clause}
 use Rattle.job.specs.declared.Condition.{Condition}
 use Rattle.job.specs.Meaning.{comparison_of, clause_of, condition_of}
 use Rattle.zone.specs.declared.Constraint.{Constraint}
+use Rattle.std.specs.Prelude.{Option, Some, None}
 use Rattle.solver.specs.Comparisons.{negations_of}
 use Rattle.conditions.specs.Uses.{Small}
-use Rattle.breaking.specs.Breaking.{same_constraint, with_way, with_ways, with_clause, ways_of, free, choices_of}
+use Rattle.breaking.specs.Breaking.{same_constraint, with_way, with_second, with_ways, with_clause, ways_of, free, choices_of}
 
 -- ---- The ways of a clause
 
@@ -27,11 +28,15 @@ way_length ws c = go (any_of (same_constraint c) ws)
     go true = omega arith
     go false = omega (arith, length-append ws (c ∷ []))
 
+second_length : (ws : List Constraint) (o : Option Constraint) → length (with_second ws o) ≤ length ws + 1
+second_length ws None = omega arith
+second_length ws (Some c) = way_length ws c
+
 clause_length : (ws : List Constraint) (c : model.Clause) → length (with_clause ws c) ≤ length ws + 2 * length c
 clause_length ws [] = omega arith
 clause_length ws (k ∷ c) =
     let p = negations_of k in
-    omega (arith, clause_length (with_ways ws p) c, way_length (with_way ws p.first) p.second, way_length ws p.first)
+    omega (arith, clause_length (with_ways ws p) c, second_length (with_way ws p.first) p.second, way_length ws p.first)
 
 -- ---- The choices of a condition
 

@@ -1,6 +1,7 @@
 -- The ways in which clauses are broken, and the rows of a zone that break one.
-use Rattle.std.specs.Prelude.{Bool, cond, ◌&&◌, List, [], ◌∷◌, ◌++◌, map, eqb}
-use Rattle.std.proofs.Math.Option.{Option, none, some}
+use Rattle.std.specs.Prelude.{Bool, cond, ◌&&◌, List, [], ◌∷◌, ◌++◌, map, eqb, Option, Some, None}
+use Rattle.std.proofs.Math.Option as maybe
+use Rattle.std.proofs.Math.Option.{none, some}
 use Rattle.base.specs.Lists.{any_of, all_of}
 use Rattle.base.specs.Arrays.{padded}
 use Rattle.model.specs.Tables.{Clause, Condition}
@@ -18,9 +19,14 @@ same_constraint c e = eqb c.left e.left && (eqb c.right e.right && eqb c.most e.
 abbrev pub with_way : List Constraint → Constraint → List Constraint
 with_way ws c = cond (any_of (same_constraint c) ws) ws (ws ++ c ∷ [])
 
--- the ways in which a comparison fails; where there is one only, it stands in both places
+-- and a second one, if there is any
+abbrev pub with_second : List Constraint → Option Constraint → List Constraint
+with_second ws None = ws
+with_second ws (Some c) = with_way ws c
+
+-- the ways in which a comparison fails
 abbrev pub with_ways : List Constraint → Constraints → List Constraint
-with_ways ws p = with_way (with_way ws p.first) p.second
+with_ways ws p = with_second (with_way ws p.first) p.second
 
 -- with those of each comparison of a clause
 abbrev pub with_clause : List Constraint → Clause → List Constraint
@@ -46,5 +52,5 @@ unfoldable pub breakable : Zone → List Constraint → Bool
 breakable z ws = any_of (allows z) ws
 
 -- the rows of the zone that obey the constraint too, unless there are none, or each of them meets one of the clauses still to be broken
-unfoldable pub chosen : Zone → Constraint → List (List Constraint) → Option Zone
+unfoldable pub chosen : Zone → Constraint → List (List Constraint) → maybe.Option Zone
 chosen z c rest = cond (allows z c && all_of (breakable (tightened z c)) rest) (some (tightened z c)) none

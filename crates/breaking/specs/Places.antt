@@ -1,24 +1,23 @@
--- Ways and choices in arrays of numbers.
-use Rattle.std.specs.Prelude.{List, [], map, ℕ, ◌+◌, ◌*◌, get_or}
-use Rattle.base.specs.Lists.{at, tabulate}
+-- Ways and choices in records: what counts of their arrays.
+use Rattle.std.specs.Prelude.{List, [], map, ℕ, get_or, take}
 use Rattle.zone.specs.declared.Constraint.{Constraint}
+use Rattle.breaking.specs.declared.Ways.{Ways}
 use Rattle.breaking.specs.declared.Choices.{Choices}
 
--- the way at a place: its left node, its right node, and what it allows
-abbrev pub way_in : List ℕ → ℕ → Constraint
-way_in ws p = record { left = at ws p; right = at ws (p + 1); most = at ws (p + 2) }
+abbrev pub ways_in : Ways → List Constraint
+ways_in w = take w.count w.list
 
--- so many ways from a place on
-unfoldable pub ways_in : List ℕ → ℕ → ℕ → List Constraint
-ways_in ws from count = tabulate count (λ i. way_in ws (from + 3 * i))
+-- what stands for ways that aren't there
+abbrev pub no_ways : Ways
+no_ways = record { count = 0; list = [] }
 
--- the ways of clause q begin at place 36 q
-abbrev pub clause_ways : Choices → List ℕ → ℕ → List Constraint
-clause_ways k ws q = ways_in ws (36 * q) (at k.sizes q)
+-- the ways of clause q
+abbrev pub clause_ways : Choices → ℕ → Ways
+clause_ways k q = get_or k.ways q no_ways
 
-unfoldable pub choices_in : Choices → List ℕ → List (List Constraint)
-choices_in k ws = tabulate 4 (clause_ways k ws)
+unfoldable pub choices_in : Choices → List (List Constraint)
+choices_in k = map ways_in k.ways
 
--- the clauses in another order
+-- the clauses in another order, or some of them
 unfoldable pub in_order : List ℕ → List (List Constraint) → List (List Constraint)
 in_order o k = map (λ q. get_or k q []) o

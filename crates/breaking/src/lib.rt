@@ -2,222 +2,154 @@
 // still to be broken.
 #![tactic(auto)]
 
-ghost use Rattle.std.specs.Prelude.{◌≡◌, ◌+◌, ◌*◌, ◌≤◌, length, drop, take};
-ghost use Rattle.base.specs.Lists.{all_of, any_of};
+ghost use Rattle.std.specs.Prelude.{◌≡◌, ℕ, ◌+◌, ◌<◌, ◌≤◌, length, take};
+ghost use Rattle.base.specs.Lists.{all_of};
 ghost use Rattle.base.specs.Options.{is_some};
 ghost use Rattle.job.specs.Meaning.{clause_of, condition_of};
 ghost use Rattle.zone.specs.Zone.{tightened};
 ghost use Rattle.zone.specs.Array.{zone_in};
 ghost use Rattle.conditions.specs.Meeting.{Lies};
 ghost use Rattle.conditions.specs.Uses.{Small};
-ghost use Rattle.breaking.specs.Breaking.{same_constraint, with_way, ways_of, free, choices_of, breakable, chosen};
-ghost use Rattle.breaking.specs.Places.{way_in, ways_in, choices_in, in_order};
-ghost use Rattle.breaking.specs.Uses.{LooksAfter, LooksAhead, Chooses};
+ghost use Rattle.breaking.specs.Breaking.{with_way, ways_of, choices_of, breakable, chosen};
+ghost use Rattle.breaking.specs.Places.{ways_in, choices_in, in_order};
+ghost use Rattle.breaking.specs.Uses.{FewWays, PutsWays, LooksAfter, LooksAhead, Chooses};
 
 use job::{Clause, Condition, Job};
 use zone::Constraint;
 
-// A way in which a clause is broken is a constraint, and takes three numbers of an array: its left node, its right node, and `most`. A
-// clause has two ways for each comparison at most; those of clause q begin at place q * CLAUSE.
-pub const CLAUSE: usize = 3 * 2 * Job::COMPARISONS;
+// The ways in which one clause is broken, the first `count` of a list: a row breaks it where it obeys one of these constraints. A
+// comparison fails in two ways at most.
+#[derive(Clone, Copy)]
+pub struct Ways {
+    pub count: usize,
+    pub list: [Constraint; 2 * Job::COMPARISONS],
+}
 
-// The numbers of all ways of a condition.
-pub const WAYS: usize = CLAUSE * Job::CLAUSES;
-
-// How many clauses a condition has, and how many ways each. Past the last clause stands one that every row breaks, so that there are always
+// How many clauses a condition has, and the ways of each. Past the last clause stands one that every row breaks, so that there are always
 // four.
 #[derive(Clone, Copy)]
 pub struct Choices {
     pub clauses: usize,
-    pub sizes: [usize; Job::CLAUSES],
+    pub ways: [Ways; Job::CLAUSES],
 }
 
 // ---- The ways in which clauses are broken
 
 // A constraint that every row obeys.
-fn free() -> Constraint
-    ensures { result ≡ free }
-{
-    Constraint {
-        left: 0,
-        right: 0,
-        most: zone::LEVEL,
+const FREE: Constraint = Constraint {
+    left: 0,
+    right: 0,
+    most: zone::LEVEL,
+};
+
+impl Ways {
+    // Those that count.
+    pub fn as_slice(&self) -> &[Constraint]
+        requires { self.now.count ≤ 12 }
+        ensures { result.now ≡ ways_in self.now }
+    {
+        &self.list[..self.count]
     }
 }
 
-fn same(c: Constraint, e: Constraint) -> bool
-    ensures { result ≡ same_constraint c e }
+// Adds a way to `count` others, unless it is one of them.
+fn put_way(list: &mut [Constraint], count: usize, c: Constraint) -> usize
+    requires { count < length list.old }
+    ensures ways { take result list.new ≡ with_way (take count list.old) c }
+    ensures few { result ≤ count + 1 }
 {
-    if c.left != e.left {
-        return false;
-    }
-    if c.right != e.right {
-        return false;
-    }
-    c.most == e.most
-}
-
-// The way at place p.
-pub fn way_at(ways: &[u64], p: usize) -> Constraint
-    requires { p + 3 ≤ length ways.now }
-    ensures { result ≡ way_in ways.now p }
-{
-    Constraint {
-        left: ways[p] as usize,
-        right: ways[p + 1] as usize,
-        most: ways[p + 2],
-    }
-}
-
-// Whether the constraint is one of `count` ways from place `from` on.
-fn is_way(ways: &[u64], from: usize, count: usize, c: Constraint) -> bool
-    requires { from + 3 * count ≤ length ways.now }
-    ensures { result ≡ any_of (same_constraint c) (ways_in ways.now from count) }
-{
-    let mut i = 0;
-    while i < count {
-        if same(c, way_at(ways, from + 3 * i)) {
-            return true;
-        }
-        i += 1;
-    }
-    false
-}
-
-// Adds a way to `count` others, unless it is one of them. What stands before place `from` stays.
-fn put_way(ways: &mut [u64], from: usize, count: usize, c: Constraint) -> usize
-    requires { from + 3 * count + 3 ≤ length ways.old }
-    ensures ways { ways_in ways.new from result ≡ with_way (ways_in ways.old from count) c }
-    ensures before { take from ways.new ≡ take from ways.old }
-{
-    if is_way(&*ways, from, count, c) {
+    if list[..count].contains(&c) {
         return count;
     }
-    let p = from + 3 * count;
-    ways[p] = c.left as u64;
-    ways[p + 1] = c.right as u64;
-    ways[p + 2] = c.most;
+    list[count] = c;
     count + 1
 }
 
-// The ways in which a clause is broken, from place `from` on.
-fn put_ways(ways: &mut [u64], from: usize, c: Clause) -> usize
-    requires { (c.size ≤ 6) × (from + 36 ≤ length ways.old) }
-    ensures ways { ways_in ways.new from result ≡ ways_of (clause_of c) }
-    ensures before { take from ways.new ≡ take from ways.old }
+// The ways in which a clause is broken, and how many there are.
+fn put_ways(list: &mut [Constraint], c: &Clause) -> usize
+    requires { PutsWays list.old c.now }
+    ensures ways { take result list.new ≡ ways_of (clause_of c.now) }
+    ensures few { result ≤ 12 }
 {
-    let size = c.size;
-    let comparisons = c.comparisons;
     let mut count = 0;
-    let mut i = 0;
-    while i < size {
-        let p = solver::negations(comparisons[i]);
-        let first = p.first;
-        let second = p.second;
-        count = put_way(&mut *ways, from, count, first);
-        count = put_way(&mut *ways, from, count, second);
-        i += 1;
+    for k in &c.comparisons[..c.size] {
+        let p = solver::negations(*k);
+        count = put_way(&mut *list, count, p.first);
+        if let Some(second) = p.second {
+            count = put_way(&mut *list, count, second);
+        }
     }
     count
 }
 
 // The ways in which the clauses of a condition are broken.
-pub fn put_choices(k: Condition, ways: &mut [u64]) -> Choices
-    requires { Small k × (length ways.old ≡ 144) }
-    ensures ways { choices_in result ways.new ≡ choices_of (condition_of k) }
-    ensures clauses { result.clauses ≡ k.size }
+pub fn put_choices(k: &Condition) -> Choices
+    requires { Small k.now }
+    ensures ways { choices_in result ≡ choices_of (condition_of k.now) }
+    ensures clauses { result.clauses ≡ k.now.size }
+    ensures few { FewWays result }
 {
-    let size = k.size;
-    let clauses = k.clauses;
-    let mut sizes = [0usize; Job::CLAUSES];
-    let mut q = 0;
-    while q < Job::CLAUSES {
-        let from = CLAUSE * q;
-        if q < size {
-            sizes[q] = put_ways(&mut *ways, from, clauses[q]);
-        } else {
-            sizes[q] = put_way(&mut *ways, from, 0, free());
-        }
-        q += 1;
+    let free = Ways {
+        count: 1,
+        list: [FREE; 2 * Job::COMPARISONS],
+    };
+    let mut choices = Choices {
+        clauses: k.size,
+        ways: [free; Job::CLAUSES],
+    };
+    for (q, c) in k.clauses[..k.size].iter().enumerate() {
+        let ways = &mut choices.ways[q];
+        ways.count = put_ways(&mut ways.list, c);
     }
-    Choices {
-        clauses: size,
-        sizes,
-    }
+    choices
 }
 
 // ---- Looks ahead
 
 // Whether some row of the zone breaks a clause, once a constraint more is obeyed.
-fn breakable_after(
-    d: &[u64],
-    n: usize,
-    c: Constraint,
-    ways: &[u64],
-    from: usize,
-    count: usize,
-) -> bool
-    requires { LooksAfter n d.now c ways.now from count }
-    ensures { result ≡ breakable (tightened (zone_in n d.now) c) (ways_in ways.now from count) }
+fn breakable_after(d: &[u64], n: usize, c: Constraint, ways: &[Constraint]) -> bool
+    requires { LooksAfter n d.now c ways.now }
+    ensures { result ≡ breakable (tightened (zone_in n d.now) c) ways.now }
 {
-    let mut i = 0;
-    while i < count {
-        if zone::allows_after(d, n, c, way_at(ways, from + 3 * i)) {
+    for e in ways {
+        if zone::allows_after(d, n, c, *e) {
             return true;
         }
-        i += 1;
     }
     false
 }
 
-// Looks ahead: whether each clause from the one in place `rest` of the order on could then be broken.
-fn open_after(
-    d: &[u64],
-    n: usize,
-    c: Constraint,
-    ways: &[u64],
-    k: Choices,
-    order: [usize; Job::CLAUSES],
-    rest: usize,
-) -> bool
-    requires { LooksAhead n d.now c k ways.now order }
-    ensures { result ≡ all_of (breakable (tightened (zone_in n d.now) c))
-        (drop rest (in_order order (choices_in k ways.now))) }
+// Looks ahead: whether each clause that is still to be broken could then be broken.
+fn open_after(d: &[u64], n: usize, c: Constraint, k: &Choices, rest: &[usize]) -> bool
+    requires { LooksAhead n d.now c k.now rest.now }
+    ensures { result ≡ all_of (breakable (tightened (zone_in n d.now) c)) (in_order rest.now (choices_in k.now)) }
 {
-    let mut i = rest;
-    while i < Job::CLAUSES {
-        let q = order[i];
-        if !breakable_after(d, n, c, ways, CLAUSE * q, k.sizes[q]) {
+    for q in rest {
+        if !breakable_after(d, n, c, k.ways[*q].as_slice()) {
             return false;
         }
-        i += 1;
     }
     true
 }
 
-// Lays the rows of a zone that obey the way at place p too into another array, unless there are none, or some clause from the one in place
-// `rest` of the order on can't be broken then. Nothing is copied before that is known.
+// Lays the rows of a zone that obey the constraint too into another array, unless there are none, or some clause that is still to be
+// broken can't be broken then. Nothing is copied before that is known.
 pub fn choose(
     from: &[u64],
     to: &mut [u64],
     n: usize,
-    ways: &[u64],
-    p: usize,
-    k: Choices,
-    order: [usize; Job::CLAUSES],
-    rest: usize,
+    c: Constraint,
+    k: &Choices,
+    rest: &[usize],
 ) -> bool
-    requires { Chooses n from.now to.old p k ways.now order }
-    ensures answer { result ≡ is_some (chosen (zone_in n from.now) (way_in ways.now p)
-        (drop rest (in_order order (choices_in k ways.now)))) }
-    ensures zone { Lies n (chosen (zone_in n from.now) (way_in ways.now p)
-        (drop rest (in_order order (choices_in k ways.now)))) to.new }
+    requires { Chooses n from.now to.old c k.now rest.now }
+    ensures answer { result ≡ is_some (chosen (zone_in n from.now) c (in_order rest.now (choices_in k.now))) }
+    ensures zone { Lies n (chosen (zone_in n from.now) c (in_order rest.now (choices_in k.now))) to.new }
 {
-    let c = way_at(ways, p);
     if !zone::allows(from, n, c) {
         return false;
     }
-    if !open_after(from, n, c, ways, k, order, rest) {
+    if !open_after(from, n, c, k, rest) {
         return false;
     }
     zone::copy(from, &mut *to, n);

@@ -3,33 +3,25 @@ use Rattle.breaking.proofs.Chosen.{way_asks, constrain_asks, open_asks, none_obe
 use Rattle.breaking.proofs.choose.Goals as goal
 
 pub allows-requires : goal.allows-requires
-allows-requires c = way_asks c.requires c.way_at-c.ensures c.requires.in_array
+allows-requires c = way_asks c.requires c.requires.in_array
 
 pub returns-then-not-allows : goal.returns-then-not-allows
 returns-then-not-allows c =
-    let r =
-    none_obeys c.requires c.way_at-c.ensures c.allows.ensures _ _ c.if-not-allows.true-raw
-    in record { answer = r.0; zone = r.1 }
+    let r = none_obeys c.requires c.allows.ensures _ _ c.if-not-allows.true in record { answer = r.0; zone = r.1 }
 
 pub open_after-requires : goal.open_after-requires
-open_after-requires c =
-    open_asks c.requires c.way_at-c.ensures c.allows.ensures c.if-not-allows.false-raw
+open_after-requires c = open_asks c.requires c.allows.ensures c.if-not-allows.false
 
 pub returns-then-not-open_after : goal.returns-then-not-open_after
 returns-then-not-open_after c =
-    let r =
-    none_ahead c.requires c.way_at-c.ensures c.allows.ensures c.if-not-allows.false-raw _
-    c.open_after.ensures _ c.if-not-open_after.true-raw
-    in record { answer = r.0; zone = r.1 }
+    let r = none_ahead c.requires c.allows.ensures c.if-not-allows.false _ c.open_after.ensures _ c.if-not-open_after.true in
+    record { answer = r.0; zone = r.1 }
 
 pub constrain-requires : goal.constrain-requires
-constrain-requires c =
-    constrain_asks c.requires c.way_at-c.ensures c.copy.ensures
+constrain-requires c = constrain_asks c.requires c.copy.ensures
 
 pub returns : goal.returns
 returns c =
-    let r =
-    lays c.requires c.way_at-c.ensures c.allows.ensures c.if-not-allows.false-raw _
-    c.open_after.ensures c.if-not-open_after.false-raw c.copy.ensures
-    c.constrain.ensures.zone
-    in record { answer = r.0; zone = r.1 }
+    let r = lays c.requires c.allows.ensures c.if-not-allows.false _ c.open_after.ensures c.if-not-open_after.false c.copy.ensures
+    c.constrain.ensures.zone in
+    record { answer = r.0; zone = r.1 }

@@ -1,41 +1,26 @@
-use borrow.Author.Rules.{rules}
-use native.Mathlib.Omega.{arith}
-use mathlib.Core.Path.{◌≡◌, refl}
-use lib.ListN.{length}
+use mathlib.Core.Path.{refl, ap, ◌∙◌}
+use Rattle.breaking.specs.Breaking.{breakable}
 use Rattle.breaking.proofs.Ahead.{ahead_asks, clause_met, clause_open, clauses_open}
 use Rattle.breaking.proofs.open_after.Goals as goal
 
-pub loop-i-init : goal.loop-i-init
-loop-i-init c = refl
+pub loop-q-init : goal.loop-q-init
+loop-q-init c = refl
 
-pub overflow_mul-q : goal.overflow_mul-q
-overflow_mul-q c = omega (arith, c.requires.order c.loop-i.i c.loop-i-test.true)
-
-pub offset_bounds-k-q : goal.offset_bounds-k-q
-offset_bounds-k-q c = omega (arith, c.requires.order c.loop-i.i c.loop-i-test.true)
-
-pub bounds-k-q : goal.bounds-k-q
-bounds-k-q c = c.requires.order c.loop-i.i c.loop-i-test.true
+pub as_slice-requires : goal.as_slice-requires
+as_slice-requires c = c.requires.choices.few _ (c.requires.rest c.loop-q.q-index c.loop-q-test.true)
 
 pub breakable_after-requires : goal.breakable_after-requires
-breakable_after-requires c = ahead_asks _ c.requires c.loop-i-test.true
+breakable_after-requires c = rw c.as_slice.ensures (ahead_asks c.requires c.loop-q-test.true)
 
 pub returns-then-not-breakable_after : goal.returns-then-not-breakable_after
 returns-then-not-breakable_after c =
-    let four : length c.args.order ≡ 4 =
-    search (rules, c.well_formed.1.1.1.1.1.0) in
-    clause_met _ c.args.k _ c.args.order four _ c.loop-i.invariant c.requires.order c.loop-i-test.true
-    c.breakable_after.ensures c.if-not-breakable_after.true-raw
+    clause_met _ c.args.k.now c.args.rest.now c.loop-q.q-index c.loop-q.invariant c.loop-q-test.true
+    (c.breakable_after.ensures ∙ ap (breakable _) c.as_slice.ensures) c.if-not-breakable_after.true
 
-pub loop-i-preserved : goal.loop-i-preserved
-loop-i-preserved c =
-    let four : length c.args.order ≡ 4 =
-    search (rules, c.well_formed.1.1.1.1.1.0) in
-    clause_open _ c.args.k _ c.args.order four _ c.loop-i.invariant c.requires.order c.loop-i-test.true
-    c.breakable_after.ensures c.if-not-breakable_after.false-raw
+pub loop-q-preserved : goal.loop-q-preserved
+loop-q-preserved c =
+    clause_open _ c.args.k.now c.args.rest.now c.loop-q.q-index c.loop-q.invariant c.loop-q-test.true
+    (c.breakable_after.ensures ∙ ap (breakable _) c.as_slice.ensures) c.if-not-breakable_after.false
 
 pub returns : goal.returns
-returns c =
-    let four : length c.args.order ≡ 4 =
-    search (rules, c.well_formed.1.1.1.1.1.0) in
-    clauses_open _ c.args.k _ c.args.order four _ c.loop-i.invariant c.loop-i-test.false
+returns c = clauses_open _ c.args.k.now c.args.rest.now c.loop-q.q-index c.loop-q.invariant c.loop-q-test.false

@@ -1,40 +1,41 @@
+use mathlib.Core.Path.{refl, ap, sym, ◌∙◌}
 use native.Mathlib.Omega.{arith}
-use Prim.Native.Nat.{◌≤◌}
-use mathlib.Core.Path.{refl, sym, ◌∙◌}
-use lib.ListN.{length}
-use Rattle.job.proofs.Records.{sized_condition}
+use lib.ListN.{length-map}
+use Rattle.job.specs.Meaning.{clause_of}
+use Rattle.conditions.proofs.Clauses.{items, item_more, item_below, item_is, item_of, items_done}
+use Rattle.breaking.specs.Breaking.{ways_of}
 use Rattle.breaking.proofs.Sizes.{small_from}
-use Rattle.breaking.proofs.Filling.{lay_start, lay_clause, lay_spare, lay_end}
+use Rattle.breaking.proofs.Filling.{lay_start, lay_turn, lay_end}
 use Rattle.breaking.proofs.put_choices.Goals as goal
-use Rattle.breaking.proofs.put_choices.Goals.{else-q-size, then-q-size}
 
 pub loop-q-init : goal.loop-q-init
-loop-q-init c = lay_start _ _ _ c.requires.1 refl
+loop-q-init c = record { clauses = refl; ways = lay_start _ }
 
-pub put_ways-requires : goal.put_ways-requires
-put_ways-requires c =
-    let small = c.requires.0 in
-    (small.comparisons c.loop-q.q c.loop-q-test.true, omega (arith, c.loop-q.invariant.room))
-
-pub put_way-requires : goal.put_way-requires
-put_way-requires c = omega (arith, c.loop-q.invariant.room)
+pub put_ways-ways-requires : goal.put_ways-ways-requires
+put_ways-ways-requires c =
+    let below = item_below c.args.k.now c.loop-q.q c.loop-q-test.true in
+    let four = c.requires.clauses in record {
+      small = rw (item_is c.args.k.now c.loop-q.q c.loop-q-test.true) (c.requires.comparisons c.loop-q.q (omega arith));
+      room = omega (arith, c.loop-q.invariant.ways.room c.loop-q.q (omega arith));
+    }
 
 pub loop-q-preserved : goal.loop-q-preserved
 loop-q-preserved c =
-    let fit : c.args.k.size ≤ length c.args.k.clauses =
-    omega (arith, (sized_condition c.args.k _ c.well_formed.0).clauses, c.requires.0.clauses) in
-    let inv = c.loop-q.invariant in
-    let more = c.loop-q-test.true in
-    elim c.if-q-size.branch [
-      | then-q-size w ↦ rw (w.ways-is, w.sizes-is) (lay_clause c.requires.0 fit inv more _ w.put_ways.auto.ways
-          w.if-q-size.true (w.put_ways.ensures.ways, w.put_ways.ensures.before))
-      | else-q-size w ↦ rw (w.ways-is, w.sizes-is) (lay_spare
-          c.requires.0 fit inv more _ w.put_way.auto.ways w.if-q-size.false w.free.ensures (w.put_way.ensures.ways, w.put_way.ensures.before))
-    ]
-
-pub shape_of-ways : goal.shape_of-ways
-shape_of-ways c = c.loop-q.invariant.room ∙ sym c.requires.1
+    let below = item_below c.args.k.now c.loop-q.q c.loop-q-test.true in
+    let four = c.requires.clauses in record {
+      clauses = c.loop-q.invariant.clauses;
+      ways = lay_turn c.loop-q.invariant.ways (small_from c.args.k.now c.requires).0
+          (record { count = c.put_ways-ways.result; list = c.put_ways-ways.new.list })
+          (item_more c.args.k.now c.loop-q.q c.loop-q-test.true)
+          (c.put_ways-ways.ensures.ways ∙ ap ways_of (sym (item_of c.args.k.now c.loop-q.q c.loop-q-test.true)))
+          c.put_ways-ways.ensures.few
+          (c.put_ways-ways.auto.list ∙ c.loop-q.invariant.ways.room c.loop-q.q (omega arith));
+    }
 
 pub returns : goal.returns
-returns c =
-    record { ways = lay_end c.loop-q.invariant _ (small_from c.args.k c.requires.0).0 c.loop-q-test.false; clauses = refl }
+returns c = record {
+  ways = lay_end c.loop-q.invariant.ways (small_from c.args.k.now c.requires).0 _
+      (items_done c.args.k.now c.loop-q.q c.loop-q-test.false) (omega (arith, length-map (items c.args.k.now) clause_of));
+  clauses = c.loop-q.invariant.clauses;
+  few = c.loop-q.invariant.ways.few;
+}

@@ -1,14 +1,8 @@
 -- `breaking::put_choices` meets its contract: the ways of one clause more with each turn. Assumes nothing.
--- the array of clauses has its length
-use Prim.Native.Nat.{◌-◌}
-use mathlib.Core.List.{map}
-use lib.ListN.{take}
-use Rattle.job.specs.Meaning.{clause_of}
+use mathlib.Core.Path.{◌≡◌}
+use Rattle.job.specs.Meaning.{condition_of}
 use Rattle.breaking.proofs.Filling.{Laying}
 use Rattle.breaking.proofs.put_choices.Given as goal
 
 abbrev pub invariant-loop-q : goal.invariant-loop-q
-invariant-loop-q l = Laying (map clause_of (take l.size l.clauses)) l.q l.ways l.sizes
-
-abbrev pub decreases-loop-q : goal.decreases-loop-q
-decreases-loop-q l = 4 - l.q
+invariant-loop-q l = record { clauses : l.choices.clauses ≡ l.k.size; ways : Laying (condition_of l.k) l.q l.choices.ways }
