@@ -15,7 +15,7 @@ use Rattle.job.specs.declared.Job.{Job}
 use Rattle.job.specs.Record.{no_column, no_comparison, no_clause, no_condition, no_expression, no_job}
 
 -- an array of parts that are all the same
-filled : {A : Type 0} {P : A → Type 0} (d : A) → ((x : A) → P x → x ≡ d) → (xs : List A) (n : ℕ) → AllOfLen P xs n → xs ≡ replicate n d
+pub filled : {A : Type 0} {P : A → Type 0} (d : A) → ((x : A) → P x → x ≡ d) → (xs : List A) (n : ℕ) → AllOfLen P xs n → xs ≡ replicate n d
 filled d each xs n h =
     ext_get_or d xs (replicate n d) (h.long ∙ sym (length-replicate n d))
     (λ i lt. let below : i < n = rw (sym h.long) lt in each _ (h.at i d below) ∙ sym (get_or-replicate n i d d below))

@@ -4,6 +4,9 @@
 ghost use Rattle.std.specs.Prelude.{◌≡◌};
 ghost use Rattle.job.specs.Record.{no_job};
 ghost use Rattle.job.specs.Same.{same_job};
+ghost use Rattle.job.specs.Meaning.{bounds_of};
+
+use model::Bounds;
 
 // A column: its table, and its bounds.
 #[derive(Clone, Copy, PartialEq, Eq, Default)]
@@ -11,6 +14,17 @@ pub struct Column {
     pub table: u8,
     pub lo: i32,
     pub hi: i32,
+}
+
+impl Column {
+    pub fn bounds(self) -> Bounds
+        ensures { result ≡ bounds_of self }
+    {
+        Bounds {
+            lo: self.lo,
+            hi: self.hi,
+        }
+    }
 }
 
 // A comparison by an op. Right is 0 where the left column is compared with the number, else one more than the column that it is compared

@@ -7,4 +7,5 @@ pub mod Twinned
 pub mod Separating
 pub mod Marking
 pub mod Differing
+pub mod Turns
 pub mod Pairing

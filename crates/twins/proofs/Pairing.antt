@@ -24,28 +24,28 @@ use Rattle.zone.specs.Array.{zone_in}
 use Rattle.zone.proofs.Array.{zone_length}
 use Rattle.solver.specs.Solver.{imposed_all}
 use Rattle.conditions.specs.Meeting.{pairs_of}
-use Rattle.conditions.proofs.Clauses.{clause_at}
+use Rattle.conditions.proofs.Clauses.{items, item}
 use Rattle.conditions.proofs.Meeting.{Paired}
-use Rattle.conditions.proofs.Pairs.{place, pairs_left, pairs_start, no_pair, pair_without, pair_passed, pair_with}
+use Rattle.conditions.proofs.Pairs.{place}
 use Rattle.conditions.proofs.Both.{left_none}
 use Rattle.twins.specs.Pairs.{if_differ}
 use Rattle.twins.specs.Marks.{marked}
 use Rattle.twins.specs.Uses.{Marks}
 use Rattle.twins.proofs.Marking.{mark_of, marked_cong, marked_marked, marked_nothing}
 use Rattle.twins.proofs.Differing.{own_same}
+use Rattle.twins.proofs.Turns.{turns_left, turns_start, turns_end, turn_without, turn_passed, turn_with}
 
 -- the marks, and those that the clauses of a list give; f c is what is looked for in the rows that meet a clause, for column c
 abbrev pub marked_by : model.Condition → Zone → ℕ → (ℕ → Zone → Option Zone) → List Bool → List Bool
 marked_by ks z w f marks = marked w (λ c. is_some (first_of ks (λ k. and_then (imposed_all z k) (f c)))) marks
 
 pub marks_start : (z : Zone) (k l : Condition) (f : ℕ → Zone → Option Zone) (marks : List Bool) (w : ℕ)
-    → marked_by (pairs_left k l 0 0) z w f marks ≡ marked w (λ c. is_some (pairs_of z (condition_of k) (condition_of l) (f c))) marks
+    → marked_by (turns_left k l 0 0) z w f marks ≡ marked w (λ c. is_some (pairs_of z (condition_of k) (condition_of l) (f c))) marks
 marks_start z k l f marks w =
-    marked_cong (λ c. is_some (first_of (pairs_left k l 0 0) (λ k. and_then (imposed_all z k) (f c))))
-    (λ c. is_some (pairs_of z (condition_of k) (condition_of l) (f c))) marks w (λ c h. ap is_some (pairs_start z k l (f c)))
+    marked_cong (λ c. is_some (first_of (turns_left k l 0 0) (λ k. and_then (imposed_all z k) (f c))))
+    (λ c. is_some (pairs_of z (condition_of k) (condition_of l) (f c))) marks w (λ c h. ap is_some (turns_start k l z (f c)))
 
-module _ {n : ℕ} {z : List ℕ} {k l : Condition} {w : ℕ} {twin out : List ℕ} {first : List Bool} (u : Marks n z k l w twin out first)
-    (four : length k.clauses ≡ 4) (others : length l.clauses ≡ 4) where
+module _ {n : ℕ} {z : List ℕ} {k l : Condition} {w : ℕ} {twin out : List ℕ} (u : Marks n z k l w twin out) where
   abbrev at_first : Zone
   at_first = zone_in (n + 1) z
 
@@ -53,18 +53,18 @@ module _ {n : ℕ} {z : List ℕ} {k l : Condition} {w : ℕ} {twin out : List �
   sought c = if_differ c (at twin c)
 
   abbrev left : ℕ → ℕ → ℕ → Bool
-  left q r c = is_some (first_of (pairs_left k l q r) (λ k. and_then (imposed_all at_first k) (sought c)))
+  left q r c = is_some (first_of (turns_left k l q r) (λ k. and_then (imposed_all at_first k) (sought c)))
 
   -- no pair is left
-  pub marks_end : {q : ℕ} (marks : List Bool) → k.size ≤ q → marked_by (pairs_left k l q 0) (zone_in (n + 1) z) w (λ c. if_differ c (at twin c)) marks ≡ marks
+  pub marks_end : {q : ℕ} (marks : List Bool) → length (items k) ≤ q → marked_by (turns_left k l q 0) (zone_in (n + 1) z) w (λ c. if_differ c (at twin c)) marks ≡ marks
   marks_end {q} marks h =
       marked_cong (left q 0) (λ c. false) marks w
-      (λ c g. ap is_some (no_pair u.searches.first u.searches.second four others (λ k. and_then (imposed_all at_first k) (sought c)) {q = q} refl h))
+      (λ c g. ap is_some (turns_end k l (λ k. and_then (imposed_all at_first k) (sought c)) q refl h))
       ∙ marked_nothing marks w
 
   -- every column is marked, or its own twin, and then no pair marks one more
   pub marks_settled : (q r : ℕ) (marks : List Bool) → T (all_of (λ c. get_or marks c false || eqb (at twin c) c) (range w))
-      → marked_by (pairs_left k l q r) (zone_in (n + 1) z) w (λ c. if_differ c (at twin c)) marks ≡ marks
+      → marked_by (turns_left k l q r) (zone_in (n + 1) z) w (λ c. if_differ c (at twin c)) marks ≡ marks
   unfolding marked
   marks_settled q r marks t = filled_same (mark_of (left q r) marks) 0 w marks false (λ c h. rw zero-add (here c h))
     where
@@ -75,30 +75,27 @@ module _ {n : ℕ} {z : List ℕ} {k l : Condition} {w : ℕ} {twin out : List �
           let own : at twin c ≡ c = eqb→eq (at twin c) c e in
           let no_more : left q r c ≡ false = ap is_some (left_none u.searches.in_array.closed (zone_length (n + 1) z ∙ add-one n) (sought c)
           (λ y cl size. rw own (own_same cl size (omega (arith, u.paired.first_in))))
-          (condition_of k) (condition_of l) u.searches.first.fit u.searches.second.fit (place l.size q r)) in
+          (condition_of k) (condition_of l) u.searches.first.fit u.searches.second.fit (place (length (items l)) q r)) in
           rw no_more (or-false (get_or marks c false)))
           (or_yes (get_or marks c false) (eqb (at twin c) c) (rw (tabulate_at w (λ i. i) c 0 h) at (all_at _ (range w) c 0 t (omega (arith, tabulate_length w (λ i. i))))))
 
   -- one pair more; s and e are what laying it answers and leaves in y
-  module _ {q r : ℕ} (h : q < k.size) (g : r < l.size) (y : List ℕ) (room : (n + 1) * 33 ≤ length y) {s : Bool} (e : List ℕ)
-      (laid : Paired n z (clause_at k q) (clause_at l r) s e) (kept : length e ≡ length y) (marks : List Bool) where
+  module _ {q r : ℕ} (h : q < length (items k)) (g : r < length (items l)) (y : List ℕ) (room : (n + 1) * 33 ≤ length y) {s : Bool} (e : List ℕ)
+      (laid : Paired n z (item k q) (item l r) s e) (kept : length e ≡ length y) (marks : List Bool) where
     without : s ≡ false → (c : ℕ) → left q (r + 1) c ≡ left q r c
-    without no_row c =
-        ap is_some (pair_without u.searches.first u.searches.second four others h g u.searches.in_array y room e laid kept (sought c) refl no_row)
+    without no_row c = ap is_some (turn_without k l h g u.searches y room e laid kept (sought c) refl no_row)
 
     with_pair : s ≡ true → (c : ℕ) → (is_some (sought c (zone_in (n + 1) e)) || left q (r + 1) c) ≡ left q r c
     with_pair some_row c = go (sought c (zone_in (n + 1) e)) refl
       where
         go : (o : Option Zone) → sought c (zone_in (n + 1) e) ≡ o → (is_some o || left q (r + 1) c) ≡ left q r c
-        go none i = ap is_some (pair_passed u.searches.first u.searches.second four others h g u.searches.in_array y room e laid kept (sought c)
-            refl some_row i)
-        go (some v) i = sym (ap is_some (pair_with u.searches.first u.searches.second four others h g u.searches.in_array y room e laid kept
-            (sought c) refl some_row i))
+        go none i = ap is_some (turn_passed k l h g u.searches y room e laid kept (sought c) refl some_row i)
+        go (some v) i = sym (ap is_some (turn_with k l h g u.searches y room e laid kept (sought c) refl some_row i))
 
     pub marks_turn : w ≤ length marks → {new : List Bool}
         → ((s ≡ true) × (new ≡ marked w (λ c. is_some (if_differ c (at twin c) (zone_in (n + 1) e))) marks)) ⊎ ((s ≡ false) × (new ≡ marks))
-        → marked_by (pairs_left k l q (r + 1)) (zone_in (n + 1) z) w (λ c. if_differ c (at twin c)) new
-        ≡ marked_by (pairs_left k l q r) (zone_in (n + 1) z) w (λ c. if_differ c (at twin c)) marks
+        → marked_by (turns_left k l q (r + 1)) (zone_in (n + 1) z) w (λ c. if_differ c (at twin c)) new
+        ≡ marked_by (turns_left k l q r) (zone_in (n + 1) z) w (λ c. if_differ c (at twin c)) marks
     marks_turn enough (inl (some_row, is)) = rw is (
         marked_marked (left q (r + 1)) (λ c. is_some (sought c (zone_in (n + 1) e))) marks w enough
         ∙ marked_cong (λ c. is_some (sought c (zone_in (n + 1) e)) || left q (r + 1) c) (left q r) marks w (λ c l. with_pair some_row c))

@@ -3,7 +3,6 @@ use Rattle.std.specs.Prelude.{Bool, cond, List, map, ℕ, ◌+◌, ◌-◌, leng
 use Rattle.base.specs.Lists.{tabulate, at}
 use Rattle.base.specs.Arrays.{padded}
 use Rattle.model.specs.declared.Bounds.{Bounds}
-use Rattle.job.specs.declared.Column.{Column}
 use Rattle.job.specs.declared.Comparison.{Comparison}
 use Rattle.job.specs.declared.Clause.{Clause}
 use Rattle.job.specs.declared.Condition.{Condition}
@@ -12,26 +11,29 @@ use Rattle.twins.specs.Twins.{twin_of, twin_bounds}
 
 -- ---- Two rows as one
 
+-- what stands behind the bounds of the columns that there are
+abbrev pub no_bounds : Bounds
+no_bounds = record { lo = pos 0; hi = pos 0 }
+
 -- columns with these bounds, and where the second row's values of the first columns stand
 unfoldable pub twins_of : List Bounds → List ℕ → TwinRows
 twins_of bs ts = record {
   columns = length bs;
   twin = padded 16 0 ts;
-  lo = padded 32 (pos 0) (map (λ b. b.lo) bs);
-  hi = padded 32 (pos 0) (map (λ b. b.hi) bs);
+  bounds = padded 32 no_bounds bs;
 }
 
 -- with one column more
-abbrev pub column_more : TwinRows → Column → TwinRows
-column_more t k = record { columns = t.columns + 1; twin = t.twin; lo = set t.lo t.columns k.lo; hi = set t.hi t.columns k.hi }
+abbrev pub column_more : TwinRows → Bounds → TwinRows
+column_more t b = record { columns = t.columns + 1; twin = t.twin; bounds = set t.bounds t.columns b }
 
 -- with the place of the second row's value of column c
 abbrev pub twin_more : TwinRows → ℕ → ℕ → TwinRows
-twin_more t c v = record { columns = t.columns; twin = set t.twin c v; lo = t.lo; hi = t.hi }
+twin_more t c v = record { columns = t.columns; twin = set t.twin c v; bounds = t.bounds }
 
 -- column c of the second row: where it isn't stored, it is one column more
-abbrev pub taken : TwinRows → ℕ → Column → Bool → TwinRows
-taken t c k stored = cond stored (twin_more t c c) (column_more (twin_more t c t.columns) k)
+abbrev pub taken : TwinRows → ℕ → Bounds → Bool → TwinRows
+taken t c b stored = cond stored (twin_more t c c) (column_more (twin_more t c t.columns) b)
 
 -- the two rows within some bounds that agree in the stored columns
 unfoldable pub twins_record : List Bounds → List ℕ → TwinRows

@@ -1,19 +1,11 @@
 -- What the functions ask of their callers, all of which is code of this repository.
-use Rattle.std.specs.Prelude.{◌≡◌, Bool, List, [], ℕ, ◌+◌, ◌*◌, ◌<◌, ◌≤◌, length, get_or, pos}
+use Rattle.std.specs.Prelude.{List, [], ℕ, ◌+◌, ◌*◌, ◌<◌, ◌≤◌, length, get_or, pos}
 use Rattle.base.specs.Lists.{at}
 use Rattle.job.specs.declared.Comparison.{Comparison}
 use Rattle.job.specs.declared.Clause.{Clause}
 use Rattle.job.specs.declared.Condition.{Condition}
-use Rattle.job.specs.declared.Columns.{Columns}
 use Rattle.zone.specs.Uses.{InArray}
 use Rattle.conditions.specs.Uses.{Searches}
-
--- ---- Two rows as one
-
--- the counts of columns and stored columns are no more than arrays hold
-pub record FewColumns (k : Columns) (stored : ℕ) : Type 0 where
-  pub width : k.width ≤ 16
-  pub few : stored ≤ 16
 
 -- ---- New names for columns
 
@@ -56,11 +48,10 @@ pub record Paired (n w : ℕ) (twin : List ℕ) : Type 0 where
   pub first_in : w ≤ n
   pub second_in : (c : ℕ) → c < w → at twin c < n
 
--- with a zone of the n columns, and a mark for each column that there can be
-pub record Twinned (n w : ℕ) (d twin : List ℕ) (marks : List Bool) : Type 0 where
+-- with a zone of the n columns
+pub record Twinned (n w : ℕ) (d twin : List ℕ) : Type 0 where
   pub in_array : InArray (n + 1) d
   pub paired : Paired n w twin
-  pub sixteen : length marks ≡ 16
 
 -- columns that there can be
 abbrev pub Few : List ℕ → Type 0
@@ -82,8 +73,7 @@ pub record Differs (n : ℕ) (z : List ℕ) (k l : Condition) (cs twin out : Lis
   pub partners : Partners n cs twin
   pub room : (n + 1) * 33 ≤ length out
 
-pub record Marks (n : ℕ) (z : List ℕ) (k l : Condition) (w : ℕ) (twin y : List ℕ) (marks : List Bool) : Type 0 where
+pub record Marks (n : ℕ) (z : List ℕ) (k l : Condition) (w : ℕ) (twin y : List ℕ) : Type 0 where
   pub searches : Searches n z k l
   pub paired : Paired n w twin
   pub room : (n + 1) * 33 ≤ length y
-  pub sixteen : length marks ≡ 16
