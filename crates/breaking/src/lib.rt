@@ -87,6 +87,7 @@ pub fn put_choices(k: &Condition) -> Choices
     requires { Small k.now }
     ensures ways { choices_in result ≡ choices_of (condition_of k.now) }
     ensures clauses { result.clauses ≡ k.now.size }
+    ensures size { result.clauses ≡ length (condition_of k.now) }
     ensures few { FewWays result }
 {
     let free = Ways {
@@ -97,7 +98,9 @@ pub fn put_choices(k: &Condition) -> Choices
         clauses: k.size,
         ways: [free; Job::CLAUSES],
     };
-    for (q, c) in k.clauses[..k.size].iter().enumerate() {
+    // as a slice, whose length is known
+    let clauses: &[Clause] = &k.clauses;
+    for (q, c) in clauses[..k.size].iter().enumerate() {
         let ways = &mut choices.ways[q];
         ways.count = put_ways(&mut ways.list, c);
     }

@@ -1,9 +1,9 @@
 -- The clauses of a condition's record, one by one. Assumes nothing.
-use mathlib.Core.Path.{◌≡◌, ap, ◌∙◌}
+use mathlib.Core.Path.{◌≡◌, ◌∙◌}
 use mathlib.Core.List.{List, []}
 use Prim.Native.Nat.{ℕ, ◌<◌, ◌≤◌}
 use native.Mathlib.Omega.{arith}
-use lib.ListN.{length, get_or, take, length-map, get_or-map}
+use lib.ListN.{length, get_or, take, length-map}
 use Rattle.std.proofs.lemmas.List.{length-take}
 use lib.Seq.{length-take-le, get_or-take}
 use Rattle.base.specs.Lists.{all_of}
@@ -15,36 +15,12 @@ use Rattle.job.specs.Meaning.{clause_of, condition_of}
 use Rattle.solver.specs.Solver.{comparison_fits}
 use Rattle.conditions.specs.Uses.{ClauseFits, ConditionFits}
 
--- clause q
-abbrev pub clause_at : Condition → ℕ → Clause
-clause_at k q = get_or k.clauses q (record { size = 0; comparisons = [] })
-
 pub condition_length : (k : Condition) → k.size ≤ length k.clauses → length (condition_of k) ≡ k.size
 condition_length k fit = length-map (take k.size k.clauses) clause_of ∙ length-take-le k.size k.clauses fit
 
-module _ (k : Condition) (fit : k.size ≤ length k.clauses) (q : ℕ) where
-  pub clause_done : k.size ≤ q → length (condition_of k) ≤ q
-  clause_done h = omega (arith, condition_length k fit)
-
-  module _ (h : q < k.size) where
-    pub clause_more_lem : q < length (condition_of k)
-    clause_more_lem = omega (arith, condition_length k fit)
-
-    pub clause_at_lem : get_or (condition_of k) q [] ≡ clause_of (clause_at k q)
-    clause_at_lem =
-        get_or-map clause_of (take k.size k.clauses) q (record { size = 0; comparisons = [] })
-        ∙ ap clause_of (get_or-take k.size k.clauses q (record { size = 0; comparisons = [] }) h)
-
--- the clauses of a condition that fits do
-module _ {n : ℕ} {k : Condition} (u : ConditionFits n k) (four : length k.clauses ≡ 4) where
-  pub few : k.size ≤ length k.clauses
-  few = omega (arith, u.small.clauses)
-
-  pub clause_fits : {q : ℕ} → q < k.size → ClauseFits n (clause_at k q)
-  clause_fits {q} h = record {
-    small = u.small.comparisons q (omega (arith, u.small.clauses));
-    fit = rw (clause_at_lem k few q h) at (all_at (all_of (comparison_fits n)) (condition_of k) q [] u.fit (clause_more_lem k few q h));
-  }
+-- the array holds as many clauses as count
+pub few : {n : ℕ} {k : Condition} → ConditionFits n k → length k.clauses ≡ 4 → k.size ≤ length k.clauses
+few u four = omega (arith, u.small.clauses)
 
 -- ---- the clauses of a condition as a slice of its record
 
@@ -66,7 +42,7 @@ module _ (k : Condition) (q : ℕ) where
     pub item_below : q < k.size
     item_below = omega (arith, length-take k.size k.clauses)
 
-    pub item_is : item k q ≡ clause_at k q
+    pub item_is : item k q ≡ get_or k.clauses q (record { size = 0; comparisons = [] })
     item_is = get_or-take k.size k.clauses q (record { size = 0; comparisons = [] }) item_below
 
     pub item_of : get_or (condition_of k) q [] ≡ clause_of (item k q)
@@ -78,6 +54,6 @@ module _ (k : Condition) (q : ℕ) where
       fit = rw item_of at (all_at (all_of (comparison_fits n)) (condition_of k) q [] u.fit item_more);
     }
 
--- and so does the clause that asks nothing
+-- the clause that asks nothing fits any columns
 pub nothing_fits : (n : ℕ) → ClauseFits n no_clause
 nothing_fits n = record { small = omega arith; fit = tt }

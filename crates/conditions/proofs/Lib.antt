@@ -4,4 +4,5 @@ pub mod Clauses
 pub mod Lists
 pub mod Meeting
 pub mod Pairs
+pub mod Turns
 pub mod Both

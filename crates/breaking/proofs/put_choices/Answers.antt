@@ -1,8 +1,9 @@
-use mathlib.Core.Path.{refl, ap, sym, ◌∙◌}
+use mathlib.Core.Path.{◌≡◌, refl, ap, sym, ◌∙◌}
 use native.Mathlib.Omega.{arith}
-use lib.ListN.{length-map}
-use Rattle.job.specs.Meaning.{clause_of}
-use Rattle.conditions.proofs.Clauses.{items, item_more, item_below, item_is, item_of, items_done}
+use borrow.Author.Rules.{rules}
+use lib.ListN.{length, length-map}
+use Rattle.job.specs.Meaning.{clause_of, condition_of}
+use Rattle.conditions.proofs.Clauses.{condition_length, items, item_more, item_below, item_is, item_of, items_done}
 use Rattle.breaking.specs.Breaking.{ways_of}
 use Rattle.breaking.proofs.Sizes.{small_from}
 use Rattle.breaking.proofs.Filling.{lay_start, lay_turn, lay_end}
@@ -33,9 +34,13 @@ loop-q-preserved c =
     }
 
 pub returns : goal.returns
-returns c = record {
-  ways = lay_end c.loop-q.invariant.ways (small_from c.args.k.now c.requires).0 _
-      (items_done c.args.k.now c.loop-q.q c.loop-q-test.false) (omega (arith, length-map (items c.args.k.now) clause_of));
-  clauses = c.loop-q.invariant.clauses;
-  few = c.loop-q.invariant.ways.few;
-}
+returns c =
+    let four : length c.args.k.now.clauses ≡ 4 = search rules in
+    let few = c.requires.clauses in
+    let size : length (condition_of c.args.k.now) ≡ c.args.k.now.size = condition_length c.args.k.now (omega arith) in record {
+      ways = lay_end c.loop-q.invariant.ways (small_from c.args.k.now c.requires).0 _
+          (items_done c.args.k.now c.loop-q.q c.loop-q-test.false) (omega (arith, length-map (items c.args.k.now) clause_of));
+      clauses = c.loop-q.invariant.clauses;
+      size = c.loop-q.invariant.clauses ∙ sym size;
+      few = c.loop-q.invariant.ways.few;
+    }

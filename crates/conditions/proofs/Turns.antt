@@ -1,0 +1,92 @@
+-- A loop over the clauses of two conditions, which are slices of their records. Assumes nothing.
+use mathlib.Core.Path.{◌≡◌, ap, ◌∙◌}
+use mathlib.Core.Bool.{Bool, true, false}
+use mathlib.Core.List.{List, [], ◌++◌}
+use mathlib.Core.Option.{Option, none, some}
+use Prim.Native.Nat.{ℕ, ◌+◌, ◌*◌, ◌<◌, ◌≤◌}
+use native.Mathlib.Nat.{add_assoc, add-zero, zero-mul, suc-mul, mul-le-mul_right, lt_of_lt_of_le, add-lt-add_of_le_of_lt, le_refl}
+use lib.ListN.{length, drop, get_or, length-map}
+use Rattle.base.specs.Options.{and_then, first_of}
+use Rattle.base.proofs.Options.{then_none, then_some}
+use Rattle.base.proofs.Turns.{first_none, first_more, first_found}
+use Rattle.model.specs.Tables as model
+use Rattle.job.specs.declared.Condition.{Condition}
+use Rattle.job.specs.Meaning.{clause_of, condition_of}
+use Rattle.zone.specs.Zone.{Zone}
+use Rattle.zone.specs.Array.{zone_in}
+use Rattle.zone.specs.Uses.{InArray}
+use Rattle.solver.specs.Solver.{imposed_all}
+use Rattle.conditions.specs.Meeting.{pairs_of, both}
+use Rattle.conditions.specs.Uses.{LaysPair, Searches}
+use Rattle.conditions.proofs.Clauses.{items, item, item_more, item_of, item_fits}
+use Rattle.conditions.proofs.Meeting.{Paired, pair_nothing, pair_found}
+use Rattle.conditions.proofs.Pairs.{place, place_row, both_length, both_at}
+
+-- what is left of the pairs from clause q of the first condition and clause r of the second on
+abbrev pub turns_left : Condition → Condition → ℕ → ℕ → model.Condition
+turns_left k l q r = drop (place (length (items l)) q r) (both (condition_of k) (condition_of l))
+
+module _ (k l : Condition) where
+  abbrev all : model.Condition
+  all = both (condition_of k) (condition_of l)
+
+  abbrev m : ℕ
+  m = length (items l)
+
+  second_length : length (condition_of l) ≡ m
+  second_length = length-map (items l) clause_of
+
+  all_length : length all ≡ length (items k) * m
+  all_length = both_length (condition_of k) (condition_of l) ∙ rw (length-map (items k) clause_of, second_length)
+
+  pub turns_start : (z : Zone) (f : Zone → Option Zone)
+      → first_of (turns_left k l 0 0) (λ c. and_then (imposed_all z c) f) ≡ pairs_of z (condition_of k) (condition_of l) f
+  unfolding pairs_of
+  turns_start z f = rw (zero-mul m)
+
+  -- the last pair of one clause is followed by the first of the next
+  pub turns_row : (q r : ℕ) → r ≡ length (items l) → turns_left k l q r ≡ turns_left k l (q + 1) 0
+  turns_row q r e = ap (λ (p : ℕ). drop p all) (place_row m q r e)
+
+  pub turns_end : (f : model.Clause → Option Zone) {o : Option Zone} (q : ℕ) → first_of (turns_left k l q 0) f ≡ o → length (items k) ≤ q → o ≡ none
+  turns_end f q left h = first_none f [] all (place m q 0) left (rw (all_length, add-zero) (mul-le-mul_right m h))
+
+  module _ {q r : ℕ} (h : q < length (items k)) (g : r < length (items l)) where
+    more : place m q r < length all
+    more = rw all_length (lt_of_lt_of_le (add-lt-add_of_le_of_lt (le_refl (q * m)) g) (rw (← (suc-mul q m)) (mul-le-mul_right m h)))
+
+    turn_at : get_or all (place m q r) [] ≡ clause_of (item k q) ++ clause_of (item l r)
+    turn_at =
+        let same : place (length (condition_of l)) q r ≡ place m q r = ap (λ (n : ℕ). place n q r) second_length in
+        rw (← same, ← (item_of k q h), ← (item_of l r g))
+        (both_at (condition_of k) (condition_of l) q r (item_more k q h) (item_more l r g))
+
+    next : place m q r + 1 ≡ place m q (r + 1)
+    next = add_assoc (q * m) r 1
+
+    -- both clauses are laid: s and y are what that answers and leaves in place of `out`
+    module _ {n : ℕ} {z : List ℕ} (u : Searches n z k l) (out : List ℕ) (room : (n + 1) * 33 ≤ length out) where
+      pub turn_asks : LaysPair n z (item k q) (item l r) out
+      turn_asks = record { in_array = u.in_array; first = item_fits k q h u.first; second = item_fits l r g u.second; room = room }
+
+      module _ {s : Bool} (y : List ℕ) (laid : Paired n z (item k q) (item l r) s y) (kept : length y ≡ length out) where
+        pub turn_in_array : s ≡ true → InArray (n + 1) y
+        turn_in_array some_row = (pair_found turn_asks laid kept some_row).in_array
+
+        -- f is what is done with the rows that meet both
+        module _ (f : Zone → Option Zone) {o : Option Zone} (left : first_of (turns_left k l q r) (λ c. and_then (imposed_all (zone_in (n + 1) z) c) f) ≡ o) where
+          abbrev by : model.Clause → Option Zone
+          by c = and_then (imposed_all (zone_in (n + 1) z) c) f
+
+          onward : by (clause_of (item k q) ++ clause_of (item l r)) ≡ none → first_of (turns_left k l q (r + 1)) by ≡ o
+          onward e = rw (← next) (first_more by [] all (place m q r) left more (rw turn_at e))
+
+          pub turn_without : s ≡ false → first_of (turns_left k l q (r + 1)) (λ c. and_then (imposed_all (zone_in (n + 1) z) c) f) ≡ o
+          turn_without no_row = onward (then_none f (pair_nothing turn_asks laid.0 no_row))
+
+          module _ (some_row : s ≡ true) where
+            pub turn_passed : f (zone_in (n + 1) y) ≡ none → first_of (turns_left k l q (r + 1)) (λ c. and_then (imposed_all (zone_in (n + 1) z) c) f) ≡ o
+            turn_passed e = onward (then_some f (pair_found turn_asks laid kept some_row).is e)
+
+            pub turn_with : {w : Zone} → f (zone_in (n + 1) y) ≡ some w → o ≡ some w
+            turn_with e = first_found by [] all (place m q r) left more (rw turn_at (then_some f (pair_found turn_asks laid kept some_row).is e))
