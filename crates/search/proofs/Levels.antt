@@ -1,12 +1,14 @@
 -- One level of the search: the ways of one clause, each tried in turn with the later clauses. Assumes nothing.
-use mathlib.Core.Path.{◌≡◌, ◌∙◌}
+use mathlib.Core.Path.{◌≡◌, sym, ◌∙◌}
 use mathlib.Core.Bool.{Bool, true, false}
 use mathlib.Core.List.{List, []}
 use mathlib.Core.Option.{Option, none, some}
-use Prim.Native.Nat.{ℕ, suc, ◌+◌, ◌*◌, ◌<◌, ◌≤◌}
+use Prim.Native.Nat.{ℕ, suc, ◌+◌, ◌-◌, ◌*◌, ◌<◌, ◌≤◌}
 use native.Mathlib.Omega.{arith}
-use lib.ListN.{length, get_or, drop, drop_of_length-le}
-use lib.Seq.{drop-cons}
+use lib.ListN.{length, get_or, take, drop, drop_of_length-le, length-drop}
+use lib.Seq.{drop-cons, get_or-drop, take_all}
+use Rattle.base.proofs.Places.{element}
+use Rattle.std.proofs.lemmas.List.{drop-map}
 use Rattle.base.specs.Lists.{at}
 use Rattle.base.specs.Options.{and_then, first_of}
 use Rattle.base.proofs.Options.{none_of, then_none, then_some}
@@ -17,126 +19,122 @@ use Rattle.zone.specs.Array.{zone_in}
 use Rattle.zone.specs.Uses.{InArray}
 use Rattle.conditions.proofs.Meeting.{Found, Ends, ends_some}
 use Rattle.breaking.specs.declared.Choices.{Choices}
-use Rattle.breaking.specs.Breaking.{chosen}
-use Rattle.breaking.specs.Places.{way_in, choices_in, clause_ways, in_order}
+use Rattle.breaking.specs.Breaking.{free, chosen}
+use Rattle.breaking.specs.Places.{ways_in, choices_in, clause_ways, in_order}
 use Rattle.breaking.specs.Uses.{WaysFit, ChoicesFit, Chooses}
-use Rattle.breaking.proofs.Ways.{no_constraint, ways_length, ways_at}
 use Rattle.breaking.proofs.Clauses.{order_length, order_at}
 use Rattle.breaking.proofs.Chosen.{chosen_found}
-use Rattle.search.specs.declared.Level.{Level}
 use Rattle.search.specs.Order.{weights, order_by}
-use Rattle.search.specs.Search.{broken, broken_by, level_at}
+use Rattle.search.specs.Search.{broken, broken_by}
 use Rattle.search.proofs.Order.{Four, order_length as length-ordered, order_below}
 
 -- choices between n nodes, in an order
-pub record Ready (n : ℕ) (k : Choices) (ws o : List ℕ) : Type 0 where
-  pub size : length ws ≡ 144
-  pub fit : ChoicesFit n k ws
+pub record Ready (n : ℕ) (k : Choices) (o : List ℕ) : Type 0 where
+  pub fit : ChoicesFit n k
   pub order : Four o
 
 -- the clauses in that order
-abbrev pub ordered : Choices → List ℕ → List ℕ → List (List Constraint)
-ordered k ws o = in_order o (choices_in k ws)
+abbrev pub ordered : Choices → List ℕ → List (List Constraint)
+ordered k o = in_order o (choices_in k)
+
+-- the ways of clause j
+abbrev pub level : Choices → List ℕ → ℕ → List Constraint
+level k o j = ways_in (clause_ways k (at o j))
+
+pub level_small : {n : ℕ} {k : Choices} {o : List ℕ} → Ready n k o → (j : ℕ) → j < 4 → (clause_ways k (at o j)).count ≤ 12
+level_small {o = o} ready j h = ready.fit.few (at o j) (ready.order.below j h)
 
 -- what comes of one way of clause j: rows of the zone that also break the later clauses, or none
 abbrev pub tried : List (List Constraint) → ℕ → Zone → Constraint → Option Zone
 tried ks j z c = and_then (chosen z c (drop (suc j) ks)) (λ y. broken y (drop (suc j) ks))
 
+-- the later clauses, by their numbers
+later_is : (k : Choices) (o : List ℕ) (j : ℕ) → in_order (drop j o) (choices_in k) ≡ drop j (ordered k o)
+unfolding in_order
+later_is k o j = sym (drop-map _ j o)
+
+-- the numbers from place j on, as the code cuts them from an array of four
+pub from_place : {o : List ℕ} → Four o → (j : ℕ) → take (4 - j) (drop j o) ≡ drop j o
+from_place {o} f j = let four = f.four in take_all (4 - j) (drop j o) (omega (arith, length-drop j o))
+
 -- a loop over the ways of clause j for the rows of the zone in x, in a search for o: before way i nothing was found
-pub record Trying (n : ℕ) (k : Choices) (ws o : List ℕ) (goal : Option Zone) (j : ℕ) (x : List ℕ) (i : ℕ) (found : Bool) : Type 0 where
-  pub ready : Ready n k ws o
+pub record Trying (n : ℕ) (k : Choices) (o : List ℕ) (goal : Option Zone) (j : ℕ) (x : List ℕ) (i : ℕ) (found : Bool) : Type 0 where
+  pub ready : Ready n k o
   pub in_four : j < 4
   pub in_array : InArray n x
-  pub barren : first_of (drop i (clause_ways k ws (at o j))) (tried (ordered k ws o) j (zone_in n x)) ≡ broken (zone_in n x) (drop j (ordered k ws o))
-  pub wins : (y : Zone) → broken (zone_in n x) (drop j (ordered k ws o)) ≡ some y → goal ≡ some y
+  pub barren : first_of (drop i (level k o j)) (tried (ordered k o) j (zone_in n x)) ≡ broken (zone_in n x) (drop j (ordered k o))
+  pub wins : (y : Zone) → broken (zone_in n x) (drop j (ordered k o)) ≡ some y → goal ≡ some y
   pub not_yet : found ≡ false
 
-module _ {n : ℕ} {k : Choices} {ws o : List ℕ} {goal : Option Zone} (ready : Ready n k ws o) (j : ℕ) (in_four : j < 4) where
+module _ {n : ℕ} {k : Choices} {o : List ℕ} {goal : Option Zone} (ready : Ready n k o) (j : ℕ) (in_four : j < 4) where
   pub level_start : {x : List ℕ} {found : Bool} → InArray n x
-      → ((y : Zone) → broken (zone_in n x) (drop j (ordered k ws o)) ≡ some y → goal ≡ some y)
-      → found ≡ false → Trying n k ws o goal j x 0 found
+      → ((y : Zone) → broken (zone_in n x) (drop j (ordered k o)) ≡ some y → goal ≡ some y)
+      → found ≡ false → Trying n k o goal j x 0 found
   level_start {x} u wins not_yet =
       let four = ready.order.four in
       record {
         ready = ready;
         in_four = in_four;
         in_array = u;
-        barren = rw (drop-cons (ordered k ws o) j [] (omega (arith, order_length k ws o four)), order_at k ws o four ready.order.below j in_four);
+        barren = rw (drop-cons (ordered k o) j [] (omega (arith, order_length k o)), order_at k o j (omega arith));
         wins = wins;
         not_yet = not_yet;
       }
 
 -- nothing came of any way
-pub level_end : {n : ℕ} {k : Choices} {ws o : List ℕ} {goal : Option Zone} {j : ℕ} {x : List ℕ} {i : ℕ} {found : Bool}
-    → Trying n k ws o goal j x i found → {lv : Level} → lv ≡ level_at k o j → lv.count ≤ i → broken (zone_in n x) (drop j (ordered k ws o)) ≡ none
-level_end {n} {k} {ws} {o} {goal} {j} {x} {i} l is h =
-    let past : (level_at k o j).count ≤ i = rw is at h in
-    first_none (tried (ordered k ws o) j (zone_in n x)) no_constraint (clause_ways k ws (at o j)) i l.barren
-    (omega (arith, ways_length ws (36 * at o j) (at k.sizes (at o j))))
+pub level_end : {n : ℕ} {k : Choices} {o : List ℕ} {goal : Option Zone} {j : ℕ} {x : List ℕ} {i : ℕ} {found : Bool}
+    → Trying n k o goal j x i found → {us : List Constraint} → us ≡ level k o j → length us ≤ i → broken (zone_in n x) (drop j (ordered k o)) ≡ none
+level_end {n} {k} {o} {goal} {j} {x} {i} l is h =
+    first_none (tried (ordered k o) j (zone_in n x)) free (level k o j) i l.barren (rw is at h)
 
-module _ {n : ℕ} {k : Choices} {ws o : List ℕ} {goal : Option Zone} {j : ℕ} {x : List ℕ} {i : ℕ} {found : Bool}
-    (l : Trying n k ws o goal j x i found) where
+module _ {n : ℕ} {k : Choices} {o : List ℕ} {goal : Option Zone} {j : ℕ} {x : List ℕ} {i : ℕ} {found : Bool}
+    (l : Trying n k o goal j x i found) where
   abbrev ks : List (List Constraint)
-  ks = ordered k ws o
+  ks = ordered k o
 
-  abbrev from : ℕ
-  from = 36 * at o j
+  fits : WaysFit n (level k o j)
+  fits = l.ready.fit.each (at o j) (l.ready.order.below j l.in_four)
 
-  abbrev count : ℕ
-  count = at k.sizes (at o j)
-
-  fits : WaysFit n ws from count
-  fits = l.ready.fit (at o j) (l.ready.order.below j l.in_four)
-
-  size : length (clause_ways k ws (at o j)) ≡ count
-  size = ways_length ws from count
-
-  -- lv is the level as the code has it
-  module _ {lv : Level} (is : lv ≡ level_at k o j) (more : i < lv.count) where
-    h : i < count
+  -- us are the ways as the code has them, and d stands for what is past their end; ns are the numbers of the later clauses
+  module _ {us : List Constraint} (is : us ≡ level k o j) (d : Constraint) (more : i < length us) {ns : List ℕ} (after : ns ≡ drop (suc j) o) where
+    h : i < length (level k o j)
     h = rw is at more
 
-    -- way i has a place
-    pub level_place : lv.from + 3 * i + 3 ≤ 144
-    level_place = rw is (omega (arith, fits.room, h, l.ready.size))
+    abbrev way : Constraint
+    way = get_or (level k o j) i d
 
-    asked : (to : List ℕ) → n * 33 ≤ length to → Chooses n x to (from + 3 * i) k ws o
+    asked : (to : List ℕ) → n * 33 ≤ length to → Chooses n x to way k (drop (suc j) o)
     asked to room = record {
       in_array = l.in_array;
       room = room;
-      there = omega (arith, fits.room, h);
-      way = fits.each i h;
+      way = fits way (element (level k o j) i d h);
       choices = l.ready.fit;
-      order = l.ready.order.below;
+      rest = λ r s.
+          let four = l.ready.order.four in
+          rw (get_or-drop (suc j) o r 0) (l.ready.order.below (suc j + r) (omega (arith, length-drop (suc j) o)));
     }
 
-    pub level_asks : (to : List ℕ) → n * 33 ≤ length to → Chooses n x to (lv.from + 3 * i) k ws o
-    level_asks to room = rw is (asked to room)
-
-    abbrev way : Constraint
-    way = way_in ws (from + 3 * i)
-
-    here : {a : Option Zone} → tried ks j (zone_in n x) way ≡ a → tried ks j (zone_in n x) (get_or (clause_ways k ws (at o j)) i no_constraint) ≡ a
-    here e = rw (ways_at ws from count i h) e
+    pub level_asks : (to : List ℕ) → n * 33 ≤ length to → Chooses n x to (get_or us i d) k ns
+    level_asks to room = rw (is, after) (asked to room)
 
     -- something comes of way i
     stops : {y : Zone} → tried ks j (zone_in n x) way ≡ some y → broken (zone_in n x) (drop j ks) ≡ some y
-    stops e = first_found (tried ks j (zone_in n x)) no_constraint (clause_ways k ws (at o j)) i l.barren (omega (arith, size, h)) (here e)
+    stops e = first_found (tried ks j (zone_in n x)) d (level k o j) i l.barren h e
 
     -- nothing does
-    goes_on : {found' : Bool} → tried ks j (zone_in n x) way ≡ none → found' ≡ false → Trying n k ws o goal j x (i + 1) found'
+    goes_on : {found' : Bool} → tried ks j (zone_in n x) way ≡ none → found' ≡ false → Trying n k o goal j x (i + 1) found'
     goes_on e not_yet = record {
       ready = l.ready;
       in_four = l.in_four;
       in_array = l.in_array;
-      barren = first_more (tried ks j (zone_in n x)) no_constraint (clause_ways k ws (at o j)) i l.barren (omega (arith, size, h)) (here e);
+      barren = first_more (tried ks j (zone_in n x)) d (level k o j) i l.barren h e;
       wins = l.wins;
       not_yet = not_yet;
     }
 
     -- ---- one turn: r and e are what choosing way i answers and leaves in place of `to`
     module _ (to : List ℕ) (room : n * 33 ≤ length to) {r : Bool} (e : List ℕ)
-        (told : Ends n (chosen (zone_in n x) (way_in ws (lv.from + 3 * i)) (drop (suc j) (ordered k ws o))) r e)
+        (told : Ends n (chosen (zone_in n x) (get_or us i d) (in_order ns (choices_in k))) r e)
         (kept : length e ≡ length to) where
       abbrev taken : Option Zone
       taken = chosen (zone_in n x) way (drop (suc j) ks)
@@ -145,7 +143,7 @@ module _ {n : ℕ} {k : Choices} {ws o : List ℕ} {goal : Option Zone} {j : ℕ
       later y = broken y (drop (suc j) ks)
 
       choice : Ends n taken r e
-      choice = rw is at told
+      choice = rw (is, after, later_is k o (suc j)) at told
 
       found_there : r ≡ true → Found n taken e
       found_there = chosen_found (asked to room) (drop (suc j) ks) choice kept
@@ -155,23 +153,24 @@ module _ {n : ℕ} {k : Choices} {ws o : List ℕ} {goal : Option Zone} {j : ℕ
       deeper some_row y deep = l.wins y (stops (then_some later (found_there some_row).is deep))
 
       -- the loop over the ways of the next clause begins
-      pub turn_down : suc j < 4 → r ≡ true → Trying n k ws o goal (suc j) e 0 found
+      pub turn_down : suc j < 4 → r ≡ true → Trying n k o goal (suc j) e 0 found
       turn_down in-next some_row = level_start l.ready (suc j) in-next (found_there some_row).in_array (deeper some_row) l.not_yet
 
       -- it ends with nothing
-      pub turn_barren : {i' : ℕ} {found' found'' : Bool} → r ≡ true → Trying n k ws o goal (suc j) e i' found' → {lv' : Level} → lv' ≡ level_at k o (suc j)
-          → lv'.count ≤ i' → found'' ≡ found' → Trying n k ws o goal j x (i + 1) found''
+      pub turn_barren : {i' : ℕ} {found' found'' : Bool} → r ≡ true → Trying n k o goal (suc j) e i' found' → {vs : List Constraint}
+          → vs ≡ level k o (suc j) → length vs ≤ i' → found'' ≡ found' → Trying n k o goal j x (i + 1) found''
       turn_barren some_row next there past same =
           goes_on (then_some later (found_there some_row).is (level_end next there past)) (same ∙ next.not_yet)
 
       -- it doesn't begin
-      pub turn_shut : {found' : Bool} → r ≡ false → found' ≡ found → Trying n k ws o goal j x (i + 1) found'
+      pub turn_shut : {found' : Bool} → r ≡ false → found' ≡ found → Trying n k o goal j x (i + 1) found'
       turn_shut no_row same = goes_on (then_none later (none_of taken choice.0 no_row)) (same ∙ l.not_yet)
 
       -- a way of the last clause is taken: the search is over
       pub turn_ends : j ≡ 3 → r ≡ true → Ends n goal true e
       turn_ends last some_row =
-          let all-broken = drop_of_length-le ks {i = suc j} (omega (arith, order_length k ws o l.ready.order.four)) in
+          let four = l.ready.order.four in
+          let all-broken = drop_of_length-le ks {i = suc j} (omega (arith, order_length k o)) in
           ends_some n e (deeper some_row (zone_in n e) (rw all-broken))
 
 -- ---- the whole search: o is the order, a what the clauses weigh

@@ -13,9 +13,9 @@ use Rattle.model.specs.Tables.{Row}
 use Rattle.zone.specs.declared.Constraint.{Constraint}
 use Rattle.conditions.proofs.Stands.{obeys}
 use Rattle.breaking.specs.Places.{in_order}
-use Rattle.breaking.specs.Uses.{Order}
 use Rattle.breaking.proofs.Breaking.{breaks}
 use Rattle.search.specs.Order.{exchanged, order_by}
+use Rattle.search.specs.Uses.{Order}
 
 module _ (ws : List ℕ) where
   -- ---- one exchange

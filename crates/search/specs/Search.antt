@@ -1,16 +1,13 @@
 -- The search for a row that meets two conditions and breaks a third, over the ways in which clauses are met and broken.
-use Rattle.std.specs.Prelude.{List, [], ◌∷◌, ℕ, ◌*◌}
+use Rattle.std.specs.Prelude.{List, [], ◌∷◌, ℕ}
 use Rattle.std.proofs.Math.Option.{Option, some}
-use Rattle.base.specs.Lists.{at}
 use Rattle.base.specs.Options.{and_then, first_of}
 use Rattle.model.specs.Tables.{Condition}
 use Rattle.zone.specs.declared.Constraint.{Constraint}
 use Rattle.zone.specs.Zone.{Zone}
 use Rattle.conditions.specs.Meeting.{pairs_of}
-use Rattle.breaking.specs.declared.Choices.{Choices}
 use Rattle.breaking.specs.Breaking.{chosen}
 use Rattle.breaking.specs.Places.{in_order}
-use Rattle.search.specs.declared.Level.{Level}
 use Rattle.search.specs.Order.{weights, order_by}
 
 -- rows of the zone that break every clause, by the first choice of a way for each that leaves some
@@ -25,7 +22,3 @@ broken_by z count k = broken z (in_order (order_by (weights z count k)) k)
 -- rows of the zone that meet both conditions and break every clause of another
 unfoldable pub outside : Zone → Condition → Condition → ℕ → List (List Constraint) → Option Zone
 outside z a b count k = pairs_of z a b (λ y. broken_by y count k)
-
--- the ways of the clause in place j of an order
-abbrev pub level_at : Choices → List ℕ → ℕ → Level
-level_at k o j = record { from = 36 * at o j; count = at k.sizes (at o j) }

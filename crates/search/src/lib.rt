@@ -9,48 +9,42 @@ ghost use Rattle.job.specs.Meaning.{condition_of};
 ghost use Rattle.zone.specs.Zone.{allows};
 ghost use Rattle.zone.specs.Array.{zone_in};
 ghost use Rattle.conditions.specs.Meeting.{Lies};
-ghost use Rattle.breaking.specs.Places.{ways_in, choices_in};
-ghost use Rattle.breaking.specs.Uses.{Order};
+ghost use Rattle.breaking.specs.Places.{choices_in};
 ghost use Rattle.search.specs.Order.{weights, exchanged, order_by};
-ghost use Rattle.search.specs.Search.{level_at, broken_by, outside};
-ghost use Rattle.search.specs.Uses.{Counts, Weighs, Breaks, SearchesOutside};
+ghost use Rattle.search.specs.Search.{broken_by, outside};
+ghost use Rattle.search.specs.Uses.{Order, Counts, Weighs, Breaks, SearchesOutside};
 
 use breaking::{Choices, choose};
 use job::{Condition, Job};
+use zone::Constraint;
 
 // What a clause past the last one weighs: more than any other, since a clause has twelve ways at most.
 const HEAVIEST: usize = 13;
 
 // ---- The order in which clauses are broken
 
-// How many of `count` ways, from place `from` on, some row of the zone takes.
-fn count_allowed(d: &[u64], n: usize, ways: &[u64], from: usize, count: usize) -> usize
-    requires { Counts n d.now ways.now from count }
-    ensures { result ≡ length (filter (allows (zone_in n d.now)) (ways_in ways.now from count)) }
+// How many of some ways some row of the zone takes.
+fn count_allowed(d: &[u64], n: usize, ways: &[Constraint]) -> usize
+    requires { Counts n d.now ways.now }
+    ensures { result ≡ length (filter (allows (zone_in n d.now)) ways.now) }
 {
     let mut allowed = 0;
-    let mut i = 0;
-    while i < count {
-        if zone::allows(d, n, breaking::way_at(ways, from + 3 * i)) {
+    for c in ways {
+        if zone::allows(d, n, *c) {
             allowed += 1;
         }
-        i += 1;
     }
     allowed
 }
 
 // What each clause weighs: as much as it has ways that some row takes.
-fn weigh(d: &[u64], n: usize, ways: &[u64], k: Choices) -> [usize; Job::CLAUSES]
-    requires { Weighs n d.now k ways.now }
-    ensures { result ≡ weights (zone_in n d.now) k.clauses (choices_in k ways.now) }
+fn weigh(d: &[u64], n: usize, k: &Choices) -> [usize; Job::CLAUSES]
+    requires { Weighs n d.now k.now }
+    ensures { result ≡ weights (zone_in n d.now) k.now.clauses (choices_in k.now) }
 {
-    let clauses = k.clauses;
-    let sizes = k.sizes;
     let mut weights = [HEAVIEST; Job::CLAUSES];
-    let mut q = 0;
-    while q < clauses {
-        weights[q] = count_allowed(d, n, ways, breaking::CLAUSE * q, sizes[q]);
-        q += 1;
+    for q in 0..k.clauses {
+        weights[q] = count_allowed(d, n, k.ways[q].as_slice());
     }
     weights
 }
@@ -75,7 +69,8 @@ fn exchange(
     order
 }
 
-// The lightest clause first: then a choice that leads nowhere shows early.
+// The lightest clause first: then a choice that leads nowhere shows early. The library's stable sort asks for a heap, and its other one
+// may put clauses of one weight in any order.
 fn order_by(weights: [usize; Job::CLAUSES]) -> [usize; Job::CLAUSES]
     ensures { result ≡ order_by weights }
 {
@@ -90,71 +85,44 @@ fn order_by(weights: [usize; Job::CLAUSES]) -> [usize; Job::CLAUSES]
 
 // ---- Rows that break every clause
 
-// The ways of one clause: where they begin, and how many there are.
-#[derive(Clone, Copy)]
-pub struct Level {
-    pub from: usize,
-    pub count: usize,
-}
-
-// The ways of the clause in place j of the order.
-fn level_at(k: Choices, order: [usize; Job::CLAUSES], j: usize) -> Level
-    requires { Order order × (j < 4) }
-    ensures { result ≡ level_at k order j }
-{
-    let q = order[j];
-    Level {
-        from: breaking::CLAUSE * q,
-        count: k.sizes[q],
-    }
-}
-
-// Some rows of a zone that break every clause, or none: by one way of each clause after the other.
+// Some rows of a zone that break every clause, or none: by one way of each clause after the other. The zones between are laid into arrays
+// that are lent one by one: in a record of loans each contract would have to say that it holds the same arrays afterwards.
 fn broken(
     x: &[u64],
     n: usize,
-    ways: &[u64],
-    k: Choices,
+    k: &Choices,
     y: &mut [u64],
     v: &mut [u64],
     w: &mut [u64],
     out: &mut [u64],
 ) -> bool
-    requires { Breaks n x.now k ways.now y.old v.old w.old out.old }
-    ensures answer { result ≡ is_some (broken_by (zone_in n x.now) k.clauses (choices_in k ways.now)) }
-    ensures zone { Lies n (broken_by (zone_in n x.now) k.clauses (choices_in k ways.now)) out.new }
+    requires { Breaks n x.now k.now y.old v.old w.old out.old }
+    ensures answer { result ≡ is_some (broken_by (zone_in n x.now) k.now.clauses (choices_in k.now)) }
+    ensures zone { Lies n (broken_by (zone_in n x.now) k.now.clauses (choices_in k.now)) out.new }
 {
-    let order = order_by(weigh(x, n, ways, k));
-    let one = level_at(k, order, 0);
-    let two = level_at(k, order, 1);
-    let three = level_at(k, order, 2);
-    let four = level_at(k, order, 3);
+    let order = order_by(weigh(x, n, k));
+    let one = k.ways[order[0]].as_slice();
+    let two = k.ways[order[1]].as_slice();
+    let three = k.ways[order[2]].as_slice();
+    let four = k.ways[order[3]].as_slice();
     let mut found = false;
-    let mut a = 0;
-    'one: while a < one.count {
-        if choose(x, &mut *y, n, ways, one.from + 3 * a, k, order, 1) {
-            let mut b = 0;
-            'two: while b < two.count {
-                if choose(&*y, &mut *v, n, ways, two.from + 3 * b, k, order, 2) {
-                    let mut c = 0;
-                    'three: while c < three.count {
-                        if choose(&*v, &mut *w, n, ways, three.from + 3 * c, k, order, 3) {
-                            let mut d = 0;
-                            'four: while d < four.count {
-                                if choose(&*w, &mut *out, n, ways, four.from + 3 * d, k, order, 4) {
+    'one: for a in one {
+        if choose(x, &mut *y, n, *a, k, &order[1..]) {
+            'two: for b in two {
+                if choose(&*y, &mut *v, n, *b, k, &order[2..]) {
+                    'three: for c in three {
+                        if choose(&*v, &mut *w, n, *c, k, &order[3..]) {
+                            'four: for d in four {
+                                if choose(&*w, &mut *out, n, *d, k, &order[4..]) {
                                     found = true;
                                     break 'one;
                                 }
-                                d += 1;
                             }
                         }
-                        c += 1;
                     }
                 }
-                b += 1;
             }
         }
-        a += 1;
     }
     found
 }
@@ -164,47 +132,29 @@ fn broken(
 pub fn outside(
     z: &[u64],
     columns: usize,
-    a: Condition,
-    b: Condition,
-    ways: &[u64],
-    k: Choices,
+    a: &Condition,
+    b: &Condition,
+    k: &Choices,
     x: &mut [u64],
     y: &mut [u64],
     v: &mut [u64],
     w: &mut [u64],
     out: &mut [u64],
 ) -> bool
-    requires { SearchesOutside columns z.now a b k ways.now x.old y.old v.old w.old out.old }
-    ensures answer { result ≡ is_some (outside (zone_in (columns + 1) z.now) (condition_of a) (condition_of b) k.clauses (choices_in k ways.now)) }
-    ensures zone { Lies (columns + 1) (outside (zone_in (columns + 1) z.now) (condition_of a) (condition_of b) k.clauses (choices_in k ways.now)) out.new }
+    requires { SearchesOutside columns z.now a.now b.now k.now x.old y.old v.old w.old out.old }
+    ensures answer { result ≡ is_some (outside (zone_in (columns + 1) z.now) (condition_of a.now) (condition_of b.now) k.now.clauses (choices_in k.now)) }
+    ensures zone { Lies (columns + 1) (outside (zone_in (columns + 1) z.now) (condition_of a.now) (condition_of b.now) k.now.clauses (choices_in k.now)) out.new }
 {
-    let size = a.size;
-    let first = a.clauses;
-    let others = b.size;
-    let second = b.clauses;
     let mut found = false;
-    let mut q = 0;
-    'first: while q < size {
-        let mut r = 0;
-        'second: while r < others {
-            if conditions::lay_pair(z, columns, first[q], second[r], &mut *x) {
-                if broken(
-                    &*x,
-                    columns + 1,
-                    ways,
-                    k,
-                    &mut *y,
-                    &mut *v,
-                    &mut *w,
-                    &mut *out,
-                ) {
+    'first: for c in &a.clauses[..a.size] {
+        'second: for e in &b.clauses[..b.size] {
+            if conditions::lay_pair(z, columns, c, e, &mut *x) {
+                if broken(&*x, columns + 1, k, &mut *y, &mut *v, &mut *w, &mut *out) {
                     found = true;
                     break 'first;
                 }
             }
-            r += 1;
         }
-        q += 1;
     }
     found
 }

@@ -1,38 +1,31 @@
 use native.Mathlib.Omega.{arith}
+use mathlib.Core.Path.{ap, ◌∙◌}
+use mathlib.Core.List.{List}
+use lib.ListN.{length}
+use Rattle.zone.specs.declared.Constraint.{Constraint}
+use Rattle.zone.specs.Zone.{allows}
+use Rattle.zone.specs.Array.{zone_in}
+use Rattle.base.specs.Lists.{filter}
 use Rattle.base.proofs.Arrays.{pass_start, front_turn, front_padded}
 use Rattle.search.proofs.Weighing.{weighed}
 use Rattle.search.proofs.weigh.Goals as goal
 
 pub loop-q-init : goal.loop-q-init
-loop-q-init c = (c.requires.few, pass_start _ _ _ _)
+loop-q-init c = pass_start _ _ _ _
 
-pub overflow_mul-q : goal.overflow_mul-q
-overflow_mul-q c = omega (arith, c.requires.few)
-
-pub offset_bounds-sizes-q : goal.offset_bounds-sizes-q
-offset_bounds-sizes-q c = omega (arith, c.requires.few)
-
-pub bounds-sizes-q : goal.bounds-sizes-q
-bounds-sizes-q c = omega (arith, c.requires.few)
+pub as_slice-requires : goal.as_slice-requires
+as_slice-requires c = c.requires.choices.few c.loop-q.q (omega (arith, c.requires.few, c.loop-q-test.true))
 
 pub count_allowed-requires : goal.count_allowed-requires
 count_allowed-requires c = record {
   in_array = c.requires.in_array;
-  ways = c.requires.choices c.loop-q.q
-      (omega (arith, c.loop-q.invariant.0, c.loop-q-test.true));
+  ways = rw c.as_slice.ensures (c.requires.choices.each c.loop-q.q (omega (arith, c.requires.few, c.loop-q-test.true)));
 }
 
-pub offset_bounds-weights-q : goal.offset_bounds-weights-q
-offset_bounds-weights-q c = omega (arith, c.loop-q.invariant.0)
-
-pub bounds-weights-q : goal.bounds-weights-q
-bounds-weights-q c = omega (arith, c.loop-q.invariant.0, c.loop-q.invariant.1.size)
-
-pub overflow_add-q : goal.overflow_add-q
-overflow_add-q c = omega (arith, c.loop-q.invariant.0)
-
 pub loop-q-preserved : goal.loop-q-preserved
-loop-q-preserved c = (c.loop-q.invariant.0, front_turn c.loop-q.invariant.1 c.loop-q-test.true c.count_allowed.ensures)
+loop-q-preserved c =
+    front_turn c.loop-q.invariant c.loop-q-test.true
+    (c.count_allowed.ensures ∙ ap (λ (us : List Constraint). length (filter (allows (zone_in c.args.n c.args.d.now)) us)) c.as_slice.ensures)
 
 pub returns : goal.returns
-returns c = weighed c.args.k _ _ c.requires.few (front_padded 13 c.loop-q.invariant.1 c.loop-q-test.false c.requires.few)
+returns c = weighed c.args.k.now _ (front_padded 13 c.loop-q.invariant c.loop-q-test.false c.requires.few)

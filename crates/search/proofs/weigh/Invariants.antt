@@ -1,5 +1,4 @@
--- `search::weigh` meets its contract. Assumes nothing.
-use Prim.Native.Nat.{◌-◌, ◌≤◌}
+-- `search::weigh` meets its contract: a pass over the weights of the clauses. Assumes nothing.
 use lib.ListN.{replicate}
 use Rattle.base.proofs.Arrays.{Pass}
 use Rattle.zone.specs.Array.{zone_in}
@@ -7,7 +6,4 @@ use Rattle.search.proofs.Weighing.{weight_at}
 use Rattle.search.proofs.weigh.Given as goal
 
 abbrev pub invariant-loop-q : goal.invariant-loop-q
-invariant-loop-q l = (l.clauses ≤ 4) × Pass (weight_at (zone_in l.n l.d) l.sizes l.ways) 0 l.clauses l.q (replicate 4 13) l.weights
-
-abbrev pub decreases-loop-q : goal.decreases-loop-q
-decreases-loop-q l = l.clauses - l.q
+invariant-loop-q l = Pass (weight_at (zone_in l.n l.d) l.k) 0 l.k.clauses l.q (replicate 4 13) l.weights
