@@ -1,5 +1,3 @@
-pub mod Places
-pub mod Tests
 pub mod Writing
 pub mod Solving
 pub mod Answering

@@ -1,22 +1,33 @@
--- `listform::solve` meets its contract: what it read are the parts of a list, or of none. Assumes nothing.
+-- `listform::solve` meets its contract: what it read is a list, or none. Assumes nothing.
 use mathlib.Core.Path.{sym, ◌∙◌}
-use native.Mathlib.Omega.{arith}
-use Rattle.listform.proofs.Solving.{parts_listed, parts_solve, refused, solved}
+use Rattle.listform.specs.Form.{found_in}
+use Rattle.listform.proofs.Solving.{list_is, least_is, size_is, list_solves}
 use Rattle.listform.proofs.solve.Goals as goal
 
-pub returns-then-not-fitting : goal.returns-then-not-fitting
-returns-then-not-fitting c =
-    let p = c.decode.ensures in
-    refused p (sym (parts_listed p) ∙ sym c.fitting.ensures ∙ c.if-not-fitting.true) c.requires.room
+pub returns-then-not-fitting-clause-found : goal.returns-then-not-fitting-clause-found
+unfolding found_in
+returns-then-not-fitting-clause-found c =
+    let d = c.decode.ensures in
+    rw (list_is _ _ _ d.bounds d.list c.fitting.ensures, c.if-not-fitting.true)
+
+pub returns-then-not-fitting-clause-row : goal.returns-then-not-fitting-clause-row
+returns-then-not-fitting-clause-row c =
+    let d = c.decode.ensures in
+    rw (list_is _ _ _ d.bounds d.list c.fitting.ensures, c.if-not-fitting.true)
 
 pub least_row-requires : goal.least_row-requires
 least_row-requires c =
-    let p = c.decode.ensures in
-    parts_solve p (sym (parts_listed p) ∙ sym c.fitting.ensures ∙ c.if-not-fitting.false) c.requires.rooms.small c.requires.room
+    let d = c.decode.ensures in
+    list_solves _ _ _ d.bounds d.list (sym c.fitting.ensures ∙ c.if-not-fitting.false) c.requires.rooms.small c.requires.room
 
-pub returns : goal.returns
-returns c =
-    let p = c.decode.ensures in
-    let s = c.least_row in
-    solved p (sym (parts_listed p) ∙ sym c.fitting.ensures ∙ c.if-not-fitting.false) (omega (arith, s.auto, c.requires.room))
-    s.ensures.answer s.ensures.row c.one_or_zero.ensures
+pub returns-clause-found : goal.returns-clause-found
+unfolding found_in
+returns-clause-found c =
+    let d = c.decode.ensures in
+    rw (list_is _ _ _ d.bounds d.list c.fitting.ensures, c.if-not-fitting.false, ← (least_is _ _ _ d.bounds d.list), c.least_row.ensures.answer)
+
+pub returns-clause-row : goal.returns-clause-row
+returns-clause-row c =
+    let d = c.decode.ensures in
+    rw (list_is _ _ _ d.bounds d.list c.fitting.ensures, c.if-not-fitting.false, ← (least_is _ _ _ d.bounds d.list))
+    (rw (size_is _ _ _ d.bounds d.list) at c.least_row.ensures.row)
