@@ -12,12 +12,11 @@
 ghost use Rattle.std.specs.Prelude.{◌<◌};
 ghost use Rattle.listform.specs.Uses.{Room};
 
-use std::io::{Read, Write};
+use std::io::{Read, Result, Write};
 
-// This function and the next two answer whether a further list may follow.
+// The functions that answer with a bool say whether a further list may follow.
 fn refuse(output: &mut impl Write) -> bool {
-    let refusal = [2u8; 1];
-    let _ = output.write_all(&refusal);
+    let _ = output.write_all(&[2]);
     false
 }
 
@@ -42,22 +41,23 @@ fn answer_list<R: Read, W: Write>(
     1 < count
 }
 
+fn next_byte(input: &mut impl Read) -> Result<u8> {
+    let mut byte = [0u8; 1];
+    input.read_exact(&mut byte)?;
+    Ok(byte[0])
+}
+
 fn next_list<R: Read, W: Write>(input: &mut R, output: &mut W) -> bool {
     // The first byte is read alone: an input that ends before it ends between two lists, and within one after it.
-    let mut columns = [0u8; 1];
-    if input.read_exact(&mut columns).is_err() {
+    let Ok(columns) = next_byte(input) else {
         return false;
-    }
-    let mut comparisons = [0u8; 1];
-    if input.read_exact(&mut comparisons).is_err() {
+    };
+    let Ok(comparisons) = next_byte(input) else {
         return refuse(output);
-    }
-    let n = base::wide(columns[0]);
-    let m = base::wide(comparisons[0]);
-    if n == 0 {
-        return refuse(output);
-    }
-    if listform::COLUMNS < n {
+    };
+    let n = usize::from(columns);
+    let m = usize::from(comparisons);
+    if n == 0 || listform::COLUMNS < n {
         return refuse(output);
     }
     let size = n * 8 + m * 7;
