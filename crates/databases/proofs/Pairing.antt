@@ -1,5 +1,6 @@
 -- The least row is read with zeros behind it, and two databases are made of it as the kind says. Assumes nothing.
-use mathlib.Core.Path.{◌≡◌, sym, ap, ◌∙◌}
+use mathlib.Core.Path.{◌≡◌, refl, sym, ap, ◌∙◌}
+use mathlib.Core.Logic.{◌⊎◌, inl, inr}
 use mathlib.Core.List.{List, ◌++◌}
 use Prim.Native.Nat.{ℕ, ◌+◌, ◌-◌, ◌<◌, ◌≤◌}
 use native.Mathlib.Omega.{arith}
@@ -14,6 +15,9 @@ use Rattle.base.proofs.Arrays.{get_or_padded, padded_past, drop_replicate}
 use Rattle.base.proofs.Tests.{by_less}
 use Rattle.words.specs.Bias.{bias, unbiased}
 use Rattle.model.specs.Tables.{Row, value}
+use Rattle.model.specs.declared.Kind.{Kind}
+use Rattle.model.specs.declared.Kind.TheVariants.{Computable, TablesDiffer, RowNotKept, ConditionHidden, OutputHidden}
+use Rattle.model.specs.Answers.{number_of_kind}
 use Rattle.zone.specs.Zone.{least_of}
 use Rattle.zone.specs.Array.{zone_in}
 use Rattle.solver.specs.Uses.{LeastRoom}
@@ -63,6 +67,15 @@ module _ (n : ℕ) (row : Row) {least : List ℤ} (e : least ≡ padded 32 (pos 
       ∙ ap (padded 16 (pos 0)) (tabulate_cong n (λ c. value (padded 32 (pos 0) row) (at twin c)) (λ c. value row (at twin c)) (λ c _.
       padded_value 32 row (at twin c)))
 
+-- ---- the kinds that one row shows, and those that two show
+pub one_kinds : {kind : Kind} → (kind ≡ TablesDiffer) ⊎ (kind ≡ RowNotKept) → (0 < number_of_kind kind) × (number_of_kind kind ≤ 2)
+one_kinds (inl e) = rw e (omega arith, omega arith)
+one_kinds (inr e) = rw e (omega arith, omega arith)
+
+pub two_kinds : {kind : Kind} → (kind ≡ ConditionHidden) ⊎ (kind ≡ OutputHidden) → 2 < number_of_kind kind
+two_kinds (inl e) = rw e (omega arith)
+two_kinds (inr e) = rw e (omega arith)
+
 -- ---- the databases
 abbrev pair : Database → Database → Pair
 pair a b = record { first = a; second = b }
@@ -73,9 +86,13 @@ module _ (k : Columns) (extract query : Expression) (row : Row) {a b : Database}
   unfolding one_pair
   one_reduced kind is f = rw (is, e, f)
 
-  pub one_none : (kind : ℕ) → ¬ (kind ≡ 1) → b ≡ no_database → pair a b ≡ one_pair k extract query kind row
+  pub one_none : (kind : Kind) → ¬ (kind ≡ TablesDiffer) → b ≡ no_database → pair a b ≡ one_pair k extract query (number_of_kind kind) row
   unfolding one_pair
-  one_none kind isn't f = rw (ne_eqb kind 1 isn't, e, f)
+  one_none Computable isn't f = rw (e, f)
+  one_none TablesDiffer isn't f = absurd (isn't refl)
+  one_none RowNotKept isn't f = rw (e, f)
+  one_none ConditionHidden isn't f = rw (e, f)
+  one_none OutputHidden isn't f = rw (e, f)
 
 pub two_made : (k : Columns) (query : Expression) (row : Row) (twin : List ℕ) {a b : Database}
     → a ≡ row_record k query (first_in k.width row) → b ≡ row_record k query (second_in k.width twin row)
@@ -84,9 +101,9 @@ unfolding two_pair
 two_made k query row twin e f = rw (e, f)
 
 pub none_made : (k : Columns) (extract query : Expression) (twin : List ℕ) (kind : ℕ) (row : Row) → kind ≡ 0
-    → {d : Database} → d ≡ no_database → pair d d ≡ pair_record k extract query twin kind row
+    → {d f : Database} → d ≡ no_database → f ≡ no_database → pair d f ≡ pair_record k extract query twin kind row
 unfolding pair_record
-none_made k extract query twin kind row is e = rw (is, e)
+none_made k extract query twin kind row is d-is f-is = rw (is, d-is, f-is)
 
 -- the row is of as many columns as the kind calls for
 module _ (k : Columns) (extract query : Expression) (rows : TwinRows) (kind : ℕ) (some : 0 < kind) (row : ℕ → Row) where

@@ -1,65 +1,46 @@
-use mathlib.Core.Path.{ap, ◌∙◌}
-use mathlib.Core.Bool.{cond, false}
-use mathlib.Core.List.{List}
 use native.Mathlib.Omega.{arith}
-use lib.ListN.{get_or}
+use mathlib.Core.Path.{◌≡◌, sym, ap, ◌∙◌}
+use mathlib.Core.Bool.{Bool, cond, false}
+use mathlib.Core.List.{List}
+use Prim.Native.Nat.{ℕ, ◌<◌}
+use lib.ListN.{get_or, length-take}
+use lib.Seq.{get_or-take}
 use lib.IntN.{ℤ, pos}
-use borrow.Author.Rules.{rules}
 use Rattle.base.proofs.Arrays.{pass_start, front_turn, front_padded}
 use Rattle.words.proofs.Stored.{stored}
 use Rattle.model.specs.Tables.{value}
-use Rattle.job.proofs.Records.{sized_columns}
+use Rattle.job.specs.declared.Column.{Column}
+use Rattle.job.specs.Record.{no_column}
 use Rattle.databases.specs.declared.Database.{Database}
 use Rattle.databases.specs.Databases.{table_at, database_record}
 use Rattle.databases.proofs.database_of.Goals as goal
+use Rattle.databases.proofs.database_of.Goals.{then-present-from, else-present-from}
 
 pub loop-c-init : goal.loop-c-init
-loop-c-init c = (sized_columns c.args.k _ c.well_formed.0, search rules, search rules, pass_start _ _ _ _)
-
-pub bounds-columns-c : goal.bounds-columns-c
-bounds-columns-c c = omega (arith, c.requires.width)
-
-pub overflow_cast-column : goal.overflow_cast-column
-overflow_cast-column c =
-    let l = c.loop-c in
-    omega (arith, c.requires.tables l.c c.loop-c-test.true)
-
-pub bounds-present-column : goal.bounds-present-column
-bounds-present-column c =
-    let l = c.loop-c in
-    omega (arith, c.requires.tables l.c c.loop-c-test.true, l.invariant.1)
-
-pub offset_bounds-row-c : goal.offset_bounds-row-c
-offset_bounds-row-c c = omega (arith, c.requires.width)
-
-pub bounds-row-c : goal.bounds-row-c
-bounds-row-c c = omega (arith, c.requires.width, c.loop-c.invariant.2)
-
-pub offset_bounds-values-c : goal.offset_bounds-values-c
-offset_bounds-values-c c =
-    let few = c.requires.width in
-    omega (arith, c.loop-c.invariant.3.size)
-
-pub bounds-values-c : goal.bounds-values-c
-bounds-values-c c =
-    let few = c.requires.width in
-    omega (arith, c.loop-c.invariant.3.size)
+loop-c-init c = pass_start _ _ _ _
 
 pub loop-c-preserved : goal.loop-c-preserved
 loop-c-preserved c =
-    let a = c.args in
-    let l = c.loop-c in
-    let there = get_or a.present (table_at a.k.columns l.c) false in (
-      l.invariant.0,
-      l.invariant.1,
-      l.invariant.2,
-      front_turn l.invariant.3 c.loop-c-test.true
-          (stored c.kept.result (omega (arith, c.kept.type_inv)) ∙ c.kept.ensures
-          ∙ ap (λ (v : ℤ). cond there v (pos 0)) (stored (value a.row l.c) (omega (arith, c.kept-arg-1.given)))),
-    )
+    let a = c.args in let k = a.k.now in let i = c.loop-c.c in
+    let h : i < k.width = omega (arith, c.loop-c-test.true, length-take k.width k.columns) in
+    let table : c.from.result ≡ table_at k.columns i =
+    c.from.ensures ∙ ap (λ (x : Column). x.table) (get_or-take k.width k.columns i no_column h) in
+    let there : get_or a.present c.from.result false ≡ get_or a.present (table_at k.columns i) false =
+    ap (λ (t : ℕ). get_or a.present t false) table in
+    front_turn c.loop-c.invariant h (elim c.if-present-from.branch [
+      | then-present-from w ↦ w.values-is ∙ stored (value a.row i) (omega arith) ∙ ap (λ (b : Bool). cond b (value a.row i) (pos 0)) (sym (sym there ∙ w.if-present-from.true))
+      | else-present-from w ↦ w.values-is ∙ ap (λ (b : Bool). cond b (value a.row i) (pos 0)) (sym (sym there ∙ w.if-present-from.false))
+    ])
 
 pub returns : goal.returns
 unfolding database_record
 returns c =
+    let k = c.args.k.now in
     let with : List ℤ → Database = λ vs. record { present = c.args.present; values = vs } in
-    ap with (front_padded (pos 0) c.loop-c.invariant.3 c.loop-c-test.false c.requires.width)
+    ap with (front_padded (pos 0) c.loop-c.invariant (omega (
+      arith,
+      c.loop-c-test.false,
+      c.loop-c.invariant.within,
+      c.requires.width,
+      length-take k.width k.columns,
+    )) c.requires.width)

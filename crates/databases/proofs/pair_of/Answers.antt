@@ -1,31 +1,20 @@
 -- `databases::pair_of` meets its contract. Assumes nothing.
 use native.Mathlib.Omega.{arith}
+use mathlib.Core.Path.{ap}
+use Rattle.model.specs.Answers.{number_of_kind}
 use Rattle.databases.specs.Databases.{least_in}
-use Rattle.databases.proofs.Pairing.{none_made, pair_one, pair_two}
+use Rattle.databases.proofs.Pairing.{one_kinds, two_kinds, none_made, pair_one, pair_two}
 use Rattle.databases.proofs.pair_of.Goals as goal
 
-pub no_database-none-requires : goal.no_database-none-requires
-no_database-none-requires c = tt
+pub returns-in-Computable : goal.returns-in-Computable
+returns-in-Computable c = none_made _ _ _ _ _ _ (ap number_of_kind c.in-Computable.is) c.no_database.ensures c.no_database-in-Computable.ensures
 
-pub returns-then-kind-eq0 : goal.returns-then-kind-eq0
-returns-then-kind-eq0 c =
-    let a = c.args in
-    none_made a.k a.extract a.query a.rows.twin a.kind _ c.if-kind-eq0.true c.no_database-none.ensures
+pub returns-in-TablesDiffer : goal.returns-in-TablesDiffer
+returns-in-TablesDiffer c =
+    let (some, one) = one_kinds c.in-TablesDiffer.is in
+    pair_one _ _ _ c.args.rows.now _ some (λ n. least_in n c.args.d.now) one c.one_row_pair.ensures
 
-pub one_row_pair-requires : goal.one_row_pair-requires
-one_row_pair-requires c = c.requires.one (omega (arith, c.if-kind-eq0.false)) c.if-kind-lt3.true
-
-pub returns-then-kind-lt3 : goal.returns-then-kind-lt3
-returns-then-kind-lt3 c =
-    let a = c.args in
-    pair_one a.k a.extract a.query a.rows a.kind (omega (arith, c.if-kind-eq0.false))
-    (λ n. least_in n a.d.now) (omega (arith, c.if-kind-lt3.true)) c.one_row_pair.ensures
-
-pub two_row_pair-requires : goal.two_row_pair-requires
-two_row_pair-requires c = c.requires.two c.if-kind-lt3.false
-
-pub returns : goal.returns
-returns c =
-    let a = c.args in
-    pair_two a.k a.extract a.query a.rows a.kind (omega (arith, c.if-kind-eq0.false))
-    (λ n. least_in n a.d.now) c.if-kind-lt3.false c.two_row_pair.ensures
+pub returns-in-ConditionHidden : goal.returns-in-ConditionHidden
+returns-in-ConditionHidden c =
+    let two = two_kinds c.in-ConditionHidden.is in
+    pair_two _ _ _ c.args.rows.now _ (omega (arith, two)) (λ n. least_in n c.args.d.now) two c.two_row_pair.ensures

@@ -6,27 +6,15 @@ use borrow.Author.Tests.{not-true, not-false}
 use Rattle.databases.specs.Databases.{database_record, reduced_record}
 use Rattle.databases.proofs.reduced_database.Goals as goal
 
-pub uses_other-requires : goal.uses_other-requires
-uses_other-requires c = record { first = c.requires.query_used; second = c.requires.extract_used }
-
-pub no_database-requires : goal.no_database-requires
-no_database-requires c = tt
-
 pub returns-then-not-uses_other : goal.returns-then-not-uses_other
 unfolding reduced_record
 returns-then-not-uses_other c =
     let alike = sym c.uses_other.ensures ∙ not-true _ c.if-not-uses_other.true-raw in
     rw alike c.no_database.ensures
 
-pub present-tables-requires : goal.present-tables-requires
-present-tables-requires c = record { first = c.requires.query_used; second = c.requires.extract_used }
-
-pub database_of-requires : goal.database_of-requires
-database_of-requires c = c.requires.few
-
 pub returns : goal.returns
 unfolding reduced_record
 returns c =
     let a = c.args in
     let other = sym c.uses_other.ensures ∙ not-false _ c.if-not-uses_other.false-raw in
-    rw other (c.database_of.ensures ∙ ap (λ (ps : List Bool). database_record a.k ps a.row) c.present-tables.ensures)
+    rw other (c.database_of.ensures ∙ ap (λ (ps : List Bool). database_record a.k.now ps a.row) c.present.ensures)

@@ -5,14 +5,8 @@ use mathlib.Core.List.{List}
 use Rattle.databases.specs.Databases.{database_record, row_record}
 use Rattle.databases.proofs.row_database.Goals as goal
 
-pub present-tables-requires : goal.present-tables-requires
-present-tables-requires c = record { first = c.requires.1; second = c.requires.1 }
-
-pub database_of-requires : goal.database_of-requires
-database_of-requires c = c.requires.0
-
 pub returns : goal.returns
 unfolding row_record
 returns c =
     let a = c.args in
-    c.database_of.ensures ∙ ap (λ (ps : List Bool). database_record a.k ps a.row) c.present-tables.ensures
+    c.database_of.ensures ∙ ap (λ (ps : List Bool). database_record a.k.now ps a.row) c.present.ensures
