@@ -7,6 +7,8 @@ use native.Mathlib.Omega.{arith}
 use lib.ListN.{length, get_or, set}
 use lib.Dec.{T, ltb, ltb→lt, lt→ltb}
 use mir.Facts.{yes_and}
+use Rattle.std.specs.List.{swap}
+use Rattle.std.proofs.lemmas.List.{get_or_default}
 use Rattle.base.specs.Lists.{all_of, any_of, at, range}
 use Rattle.base.proofs.Places.{all_at, tabulated}
 use Rattle.model.specs.Tables.{Row}
@@ -41,11 +43,18 @@ module _ (ws : List ℕ) where
 
   -- as the code makes it
   pub exchanged_swaps : (i : ℕ) (o : List ℕ) → suc i < length o → ltb (at ws (at o (suc i))) (at ws (at o i)) ≡ true
-      → set (set o i (at o (suc i))) (suc i) (at o i) ≡ exchanged ws i o
+      → swap o i (suc i) ≡ exchanged ws i o
   exchanged_swaps i [] h e = absurd (omega arith)
   exchanged_swaps i (a ∷ []) h e = absurd (omega arith)
-  exchanged_swaps zero (a ∷ b ∷ o) h e = rw e
-  exchanged_swaps (suc i) (a ∷ b ∷ o) h e = ap (λ (l : List ℕ). a ∷ l) (exchanged_swaps i (b ∷ o) (omega arith) e)
+  exchanged_swaps i (a ∷ b ∷ o) h e =
+      rw (get_or_default (a ∷ b ∷ o) (suc i) a 0 h, get_or_default (a ∷ b ∷ o) i a 0 (omega arith)) (placed i (a ∷ b ∷ o) h e)
+    where
+      placed : (i : ℕ) (o : List ℕ) → suc i < length o → ltb (at ws (at o (suc i))) (at ws (at o i)) ≡ true
+          → set (set o i (at o (suc i))) (suc i) (at o i) ≡ exchanged ws i o
+      placed i [] h e = absurd (omega arith)
+      placed i (a ∷ []) h e = absurd (omega arith)
+      placed zero (a ∷ b ∷ o) h e = rw e
+      placed (suc i) (a ∷ b ∷ o) h e = ap (λ (l : List ℕ). a ∷ l) (placed i (b ∷ o) (omega arith) e)
 
   pub exchanged_stays : (i : ℕ) (o : List ℕ) → suc i < length o → ltb (at ws (at o (suc i))) (at ws (at o i)) ≡ false → o ≡ exchanged ws i o
   exchanged_stays i [] h e = absurd (omega arith)

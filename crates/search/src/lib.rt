@@ -58,15 +58,11 @@ fn exchange(
     requires { Order order × (i < 3) }
     ensures { result ≡ exchanged weights i order }
 {
-    let first = order[i];
-    let second = order[i + 1];
-    if weights[second] < weights[first] {
-        let mut other = order;
-        other[i] = second;
-        other[i + 1] = first;
-        return other;
+    let mut other = order;
+    if weights[order[i + 1]] < weights[order[i]] {
+        other.swap(i, i + 1);
     }
-    order
+    other
 }
 
 // The lightest clause first: then a choice that leads nowhere shows early. The library's stable sort asks for a heap, and its other one
