@@ -60,7 +60,11 @@ placed q r e = record {
 abbrev pub at_start : Progress
 at_start = record { cursor = record { at = 4; last = 0; in_query = false }; job = no_job }
 
--- what a cursor and a record say has been read
+-- the expression that commands are for
+abbrev pub current_of : Progress → Expression
+current_of p = current_in p.cursor.in_query p.job
+
+-- what the cursor and the record say has been read
 abbrev pub state_of : Progress → State
 state_of p = record { last = p.cursor.last; in_query = p.cursor.in_query; job = meaning_of p.job }
 
@@ -120,7 +124,7 @@ part_more e (Compared k) = conditioned e (comparison_more e.condition k)
 abbrev pub grown : Progress → Addition → Job
 grown p TableAdded = table_more p.job
 grown p (ColumnAdded k) = column_more p.job k
-grown p (PartAdded x) = placed p.cursor.in_query p.job (part_more (current_in p.cursor.in_query p.job) x)
+grown p (PartAdded x) = placed p.cursor.in_query p.job (part_more (current_of p) x)
 grown p Nothing = p.job
 
 -- there is room for it
@@ -133,7 +137,7 @@ PartFits e (Compared k) = (0 < e.condition.size) × (e.condition.size ≤ 4) × 
 abbrev pub Fits : Progress → Addition → Type 0
 Fits p TableAdded = p.job.tables < 4
 Fits p (ColumnAdded k) = p.job.width < 16
-Fits p (PartAdded x) = PartFits (current_in p.cursor.in_query p.job) x
+Fits p (PartAdded x) = PartFits (current_of p) x
 Fits p Nothing = T true
 
 -- ---- The checks 7 to 10

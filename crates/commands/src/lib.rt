@@ -8,7 +8,7 @@ ghost use Rattle.model.specs.WellFormed.{in_range};
 ghost use Rattle.layout.specs.declared.Command.TheVariants.{NextColumn, TableUsed, OutputColumn, NumberCompared, ColumnCompared};
 ghost use Rattle.layout.specs.Commands.{command_of, operands, in_condition, ending, before, entry_at};
 ghost use Rattle.layout.specs.Reading.{starts, has_room};
-ghost use Rattle.commands.specs.Uses.{at_start, current_in, state_of, scoped_in, above_in, output_in, bounds_fit, part_more, grown};
+ghost use Rattle.commands.specs.Uses.{at_start, current_of, state_of, scoped_in, above_in, output_in, bounds_fit, part_more, grown};
 ghost use Rattle.commands.specs.Uses.{PartFits, Fits, Judges, Held, Ready};
 
 use job::{Column, Comparison, Expression, Job};
@@ -162,7 +162,7 @@ pub struct Cursor {
     pub in_query: bool,
 }
 
-// What has been read so far.
+// What has been read so far. The record is a job's at every moment: its query is empty until it begins.
 #[derive(Clone, Copy)]
 pub struct Progress {
     pub cursor: Cursor,
@@ -187,7 +187,7 @@ impl Progress {
 
     // The expression that commands are for.
     fn current(&self) -> &Expression
-        ensures { result.now ≡ current_in self.now.cursor.in_query self.now.job }
+        ensures { result.now ≡ current_of self.now }
     {
         if self.cursor.in_query {
             &self.job.query
@@ -197,6 +197,7 @@ impl Progress {
     }
 
     // Whether a command's entry is within the limits.
+    #[tactic(auto, using(crate::proofs::Keeping::tables_held, crate::proofs::Keeping::width_held, crate::proofs::Keeping::size_held))]
     pub fn has_room(&self, c: Command) -> bool
         requires { Held self.now }
         ensures { result ≡ has_room (state_of self.now) c }
@@ -215,6 +216,7 @@ impl Progress {
     }
 
     // Whether the last clause has room. Where there is none, the first place has an empty one.
+    #[tactic(auto, using(crate::proofs::Keeping::size_small, crate::proofs::Keeping::comparisons_held))]
     fn has_room_to_compare(&self) -> bool
         requires { Held self.now }
         ensures { result ≡ has_room (state_of self.now) NumberCompared }
@@ -225,9 +227,10 @@ impl Progress {
     }
 
     // Whether column c is declared and its table used.
+    #[tactic(auto, using(crate::proofs::Keeping::used_small, crate::proofs::Keeping::width_small))]
     fn is_in_scope(&self, c: u8) -> bool
         requires { Held self.now }
-        ensures { result ≡ scoped_in self.now.job (current_in self.now.cursor.in_query self.now.job) c }
+        ensures { result ≡ scoped_in self.now.job (current_of self.now) c }
     {
         let k = usize::from(c);
         if k >= self.job.width {
@@ -238,18 +241,20 @@ impl Progress {
     }
 
     // Whether table t comes after the used tables.
+    #[tactic(auto, using(crate::proofs::Keeping::used_small))]
     fn is_above(&self, t: u8) -> bool
         requires { Held self.now }
-        ensures { result ≡ above_in (current_in self.now.cursor.in_query self.now.job) t }
+        ensures { result ≡ above_in (current_of self.now) t }
     {
         let e = self.current();
         e.tables == 0 || e.used[e.tables - 1] < t
     }
 
     // Whether column c is an output already.
+    #[tactic(auto, using(crate::proofs::Keeping::outputs_small))]
     fn is_output(&self, c: u8) -> bool
         requires { Held self.now }
-        ensures { result ≡ output_in (current_in self.now.cursor.in_query self.now.job) c }
+        ensures { result ≡ output_in (current_of self.now) c }
     {
         let e = self.current();
         e.outputs[..e.width].contains(&c)
@@ -274,6 +279,7 @@ impl Progress {
     }
 
     // 30: a table, declared and above the ones before it.
+    #[tactic(auto, using(crate::proofs::Entries::no_table, crate::proofs::Entries::not_above))]
     fn table_used(&self, s: &[u8]) -> Result<Addition, Fault>
         requires { (Ready self.now TableUsed) × (self.now.cursor.at + 2 ≤ length s.now) }
         ensures { Judges self.now (entry_at TableUsed s.now self.now.cursor.at) result }
@@ -289,6 +295,7 @@ impl Progress {
     }
 
     // 31: a column in scope that is no output yet.
+    #[tactic(auto, using(crate::proofs::Entries::out_of_scope, crate::proofs::Entries::repeated))]
     fn output_column(&self, s: &[u8]) -> Result<Addition, Fault>
         requires { (Ready self.now OutputColumn) × (self.now.cursor.at + 2 ≤ length s.now) }
         ensures { Judges self.now (entry_at OutputColumn s.now self.now.cursor.at) result }

@@ -41,6 +41,7 @@ fn take(s: &[u8], p: &Progress) -> Result<(Cursor, Addition), Fault>
 }
 
 // One command, through the checks 2 to 10.
+#[tactic(auto, using(crate::proofs::Steps::step_none))]
 fn step(s: &[u8], p: &Progress) -> Result<(Cursor, Addition), Refusal>
     requires { Held p.now }
     ensures { Takes p.now (step_of s.now p.now.cursor.at (state_of p.now)) result }
@@ -57,6 +58,7 @@ fn step(s: &[u8], p: &Progress) -> Result<(Cursor, Addition), Refusal>
 
 // The job that some bytes stand for, or the first thing that is wrong with them. A command takes a byte or more, so that there are as many
 // commands as bytes at most.
+#[tactic(auto, using(crate::proofs::Turns::not_started, crate::proofs::Turns::none_left))]
 pub fn read(s: &[u8]) -> Result<Job, Refusal>
     ensures { result ≡ decoded_of (read_of s.now) }
 {

@@ -1,17 +1,11 @@
 -- `reader::read` meets its contract. Assumes nothing.
 use mathlib.Core.Path.{sym, ◌∙◌}
-use Rattle.reader.proofs.Turns.{begun, broken_off, Turn, again, too_long, finished, none_left, not_started}
+use Rattle.reader.proofs.Turns.{begun, broken_off, Turn, again, too_long, finished}
 use Rattle.reader.proofs.read.Goals as goal
 use Rattle.reader.proofs.read.Goals.{In-Ok}
 
-pub returns-then-not-is_start : goal.returns-then-not-is_start
-returns-then-not-is_start c = not_started _ (sym c.is_start.ensures ∙ c.if-not-is_start.true)
-
 pub loop-init : goal.loop-init
 loop-init c = rw c.new-p.ensures (begun _ (sym c.is_start.ensures ∙ c.if-not-is_start.false))
-
-pub step-took-requires : goal.step-took-requires
-step-took-requires c = c.loop.invariant.held
 
 pub returns-in_default : goal.returns-in_default
 returns-in_default c = broken_off c.loop.invariant c.loop-test.true c.step-took.ensures _ c.unwrap_err.ensures
@@ -28,6 +22,3 @@ returns-then-next c = rw c.go_on.ensures (finished (turn (goal.at.returns-then-n
 
 pub loop-preserved : goal.loop-preserved
 loop-preserved c = rw c.go_on.ensures (again (turn (goal.at.loop-preserved c).In-Ok) c.if-next.false)
-
-pub returns : goal.returns
-returns c = none_left c.loop.invariant c.loop-test.false
