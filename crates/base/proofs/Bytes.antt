@@ -1,15 +1,20 @@
 -- Bytes, and bytes that are put one behind the other: two parts, and a part for each of some elements. Assumes nothing.
 use mathlib.Core.Path.{◌≡◌, refl, sym, ap, ◌∙◌}
 use mathlib.Core.List.{List, [], ◌∷◌, ◌++◌}
-use Prim.Native.Nat.{ℕ, zero, suc, ◌+◌, ◌≤◌, ◌<◌, min}
+use Prim.Native.Nat.{ℕ, zero, suc, ◌+◌, ◌≤◌, ◌<◌}
 use native.Mathlib.Nat.{add-zero}
 use native.Mathlib.Numerals.{add-one}
-use native.Mathlib.Omega.{arith, min_cases}
-use lib.ListN.{length, get_or, take, drop, set, length-append, length-take}
-use lib.Seq.{sets, length-sets, sets-eq, take-suc, drop-cons, take_all, get_or-take, get_or-drop}
+use native.Mathlib.Omega.{arith}
+use lib.ListN.{length, take, drop, set, length-append}
+use lib.Seq.{sets, length-sets, sets-eq, get_or-drop}
+use Rattle.std.specs.declared.slice.Iter.{Iter}
+use Rattle.std.specs.declared.iter.Take.{Take}
+use Rattle.std.specs.Iterator.Adapters.{take_source, take_count}
+use Rattle.std.proofs.lemmas.List.{nil_from_length}
+use Rattle.std.specs.Slice.Iter.{iter_rest}
 use Rattle.base.specs.Lists.{flat_map}
 use Rattle.base.specs.Bytes.{Bytes, Room, Puts}
-use Rattle.base.proofs.Lists.{flat_map_snoc}
+use Rattle.base.specs.declared.Output.{Output}
 
 -- ---- each element is a byte
 pub bytes_none : Bytes []
@@ -37,65 +42,93 @@ sets_append : (l : List ℕ) (i : ℕ) (u v : List ℕ) → sets (sets l i u) (i
 sets_append l i [] v = rw add-zero
 sets_append l i (a ∷ u) v = let e : i + suc (length u) ≡ suc i + length u = omega arith in rw e (sets_append (set l i a) (suc i) u v)
 
-pub puts_length : {old new : List ℕ} {at r : ℕ} {u : List ℕ} → Puts old new at r u → length new ≡ length old
-puts_length {old} {at = at} {u = u} x = ap length x.list ∙ length-sets old at u
+pub puts_length : {old new : Output} {u : List ℕ} → Puts old new u → length new.bytes.now ≡ length old.bytes.now
+puts_length {old} {u = u} x = ap length x.list ∙ length-sets old.bytes.now old.at u
 
-pub nothing : (l : List ℕ) (at : ℕ) → Puts l l at at []
-nothing l at = record { next = sym (add-zero at); list = refl }
+pub nothing : (out : Output) → out.at ≤ length out.bytes.now → Puts out out []
+nothing out h = record { same = refl; next = sym (add-zero out.at); within = h; list = refl }
 
-pub and_then_lem : {a b c : List ℕ} {at p r : ℕ} {u v : List ℕ} → Puts a b at p u → Puts b c p r v → Puts a c at r (u ++ v)
-and_then_lem {a} {b} {c} {at} {p} {r} {u} {v} x y = record {
+pub puts_is : {old new out : Output} {u v : List ℕ} → out ≡ new → u ≡ v → Puts old new u → Puts old out v
+puts_is d e x = rw (d, ← e) x
+
+pub and_then_lem : {a b c : Output} {u v : List ℕ} → Puts a b u → Puts b c v → Puts a c (u ++ v)
+and_then_lem {a} {b} {c} {u} {v} x y = record {
+  same = y.same ∙ x.same;
   next = omega (arith, x.next, y.next, length-append u v);
-  list = y.list ∙ rw (x.list, x.next) (sets_append a at u v);
+  within = y.within;
+  list = y.list ∙ rw (x.list, x.next) (sets_append a.bytes.now a.at u v);
 }
 
-pub room_first : {out : List ℕ} {at : ℕ} (u v : List ℕ) → Room out at (u ++ v) → Room out at u
+pub room_first : {out : Output} (u v : List ℕ) → Room out (u ++ v) → Room out u
 room_first u v x = record { room = omega (arith, x.room, length-append u v) }
 
-pub room_next : {old new : List ℕ} {at p : ℕ} (u v : List ℕ) → Room old at (u ++ v) → Puts old new at p u → Room new p v
+pub room_next : {old new : Output} (u v : List ℕ) → Room old (u ++ v) → Puts old new u → Room new v
 room_next u v x y = record { room = omega (arith, x.room, y.next, puts_length y, length-append u v) }
 
--- from the first place on
-pub put_first : {old new : List ℕ} {r : ℕ} (u : List ℕ) → length u ≤ length old → Puts old new 0 r u → new ≡ u ++ drop (length u) old
-put_first {old} u h x =
+-- from the first place on, into bytes that are lent until then
+pub put_first : {old new : Output} {lent : List ℕ} (u : List ℕ) → old.at ≡ 0
+    → (old.bytes.ghost_name ≡ new.bytes.ghost_name → lent ≡ new.bytes.now) → Puts old new u
+    → (new.at ≡ length u) × (lent ≡ u ++ drop (length u) old.bytes.now)
+put_first {old} u none back x =
     let from : 0 + length u ≡ length u = omega arith in
-    x.list ∙ sets-eq u old 0 (omega arith) ∙ rw from
+    let fits : 0 + length u ≤ length old.bytes.now = omega (arith, x.next, x.within, puts_length x) in
+    (omega (arith, x.next), back (sym x.same) ∙ (rw none at x.list) ∙ sets-eq u old.bytes.now 0 fits ∙ rw from)
 
--- ---- a part for each of some elements
-module _ {A B : Type 0} (f : A → List B) where
-  left : (n : ℕ) (l : List A) (i : ℕ) (d : A) → i < min n (length l)
-      → flat_map (drop i (take n l)) f ≡ f (get_or l i d) ++ flat_map (drop (i + 1) (take n l)) f
-  left n l i d h =
-      let few : i < length (take n l) = simp length-take h in
-      rw (add-one, drop-cons (take n l) i d few, get_or-take n l i d (omega arith))
+-- ---- a part for each element of l: those of `left` are still to be put, and there is room for them
+pub record Left {A : Type 0} (f : A → List ℕ) (l left : List A) (old new : Output) : Type 0 where
+  pub room : Room new (flat_map left f)
+  pub done : {newer : Output} → Puts new newer (flat_map left f) → Puts old newer (flat_map l f)
 
-take_reached : {A : Type 0} (i n : ℕ) (l : List A) → i ≡ min n (length l) → take i l ≡ take n l
-take_reached i n l h =
-    min_cases n (length l) _ (λ less e. let same : i ≡ n = omega arith in rw same)
-    (λ more e. take_all i l (omega arith) ∙ sym (take_all n l more))
+module _ {A : Type 0} {f : A → List ℕ} {l : List A} where
+  pub left_all : {out : Output} → Room out (flat_map l f) → Left f l l out out
+  left_all r = record { room = r; done = λ x. x }
 
--- of the first k elements of l, which are n, those up to i are put, and for the others there is room
-pub record Turn {A : Type 0} (f : A → List ℕ) (k : ℕ) (l : List A) (n : ℕ) (old : List ℕ) (at : ℕ) (new : List ℕ) (p i : ℕ) : Type 0 where
-  pub count : n ≡ min k (length l)
-  pub within : i ≤ n
-  pub room : Room new p (flat_map (drop i (take k l)) f)
-  pub done : Puts old new at p (flat_map (take i l) f)
+  module _ {left more : List A} {x : A} {old new : Output} (is : left ≡ x ∷ more) (s : Left f l left old new) where
+    pub left_room : Room new (f x)
+    left_room = room_first (f x) (flat_map more f) (rw is at s.room)
 
-module _ {A : Type 0} {f : A → List ℕ} {k : ℕ} {l : List A} {n : ℕ} where
-  pub turns_begin : {old : List ℕ} {at : ℕ} → n ≡ min k (length l) → Room old at (flat_map (take k l) f) → Turn f k l n old at old at 0
-  turns_begin {old} {at} e r = record { count = e; within = omega arith; room = r; done = nothing old at }
-
-  module _ {old new : List ℕ} {at p i : ℕ} (x : Turn f k l n old at new p i) where
-    pub turn_room : (d : A) → i < n → Room new p (f (get_or l i d))
-    turn_room d h = room_first (f (get_or l i d)) _ (rw (left f k l i d (omega (arith, x.count))) at x.room)
-
-    pub turn_next : {newer : List ℕ} {r : ℕ} (d : A) → i < n → Puts new newer p r (f (get_or l i d)) → Turn f k l n old at newer r (i + 1)
-    turn_next d h y = record {
-      count = x.count;
-      within = omega arith;
-      room = room_next (f (get_or l i d)) _ (rw (left f k l i d (omega (arith, x.count))) at x.room) y;
-      done = rw (add-one, take-suc l i d (omega (arith, x.count)), flat_map_snoc f (take i l) (get_or l i d)) (and_then_lem x.done y);
+    pub left_next : {newer : Output} → Puts new newer (f x) → Left f l more old newer
+    left_next y = record {
+      room = room_next (f x) (flat_map more f) (rw is at s.room) y;
+      done = λ z. s.done (rw is (and_then_lem y z));
     }
 
-    pub turns_end : n ≤ i → Puts old new at p (flat_map (take k l) f)
-    turns_end h = rw (take_reached i k l (omega (arith, x.count, x.within))) at x.done
+  pub left_none : {left : List A} {old new : Output} → left ≡ [] → Left f l left old new → Puts old new (flat_map l f)
+  left_none {new = new} is s =
+      let r : Room new (flat_map [] f) = rw is at s.room in
+      s.done (rw is (nothing new (omega (arith, r.room))))
+
+-- ---- the same in a loop over the first elements of a slice: those that the iterator s has left
+abbrev pub yet : {A : Type 0} → Take (Iter A) → List A
+yet s = take (take_count s) (iter_rest (take_source s))
+
+pub record Yet {A : Type 0} (f : A → List ℕ) (l : List A) (s : Take (Iter A)) (old new : Output) : Type 0 where
+  pub left : Left f l (yet s) old new
+
+pub yet_all : {A : Type 0} {f : A → List ℕ} {l : List A} {s : Take (Iter A)} {out : Output} → yet s ≡ l → Room out (flat_map l f) → Yet f l s out out
+yet_all is r = record { left = rw is (left_all r) }
+
+module _ {A : Type 0} {f : A → List ℕ} {l : List A} {old new : Output} {s : Take (Iter A)} (so_far : Yet f l s old new) where
+  -- one of them is there, and `more` of which n count come after it
+  module _ (n : ℕ) {x : A} {more : List A} (h : (iter_rest (take_source s) ≡ x ∷ more) × (n + 1 ≡ take_count s)) where
+    one_yet : yet s ≡ x ∷ take n more
+    one_yet = rw (← h.1, h.0, add-one) refl
+
+    pub yet_room : Room new (f x)
+    yet_room = left_room one_yet so_far.left
+
+    yet_more : {newer : Output} → Puts new newer (f x) → Left f l (take n more) old newer
+    yet_more y = left_next one_yet so_far.left y
+
+  pub yet_next : {t : Take (Iter A)} {x : A} → (iter_rest (take_source s) ≡ x ∷ iter_rest (take_source t)) × (take_count t + 1 ≡ take_count s)
+      → {newer : Output} → Puts new newer (f x) → Yet f l t old newer
+  yet_next h y = record { left = yet_more _ h y }
+
+  pub yet_none : {P : Type 0} → (0 < take_count s → (length (iter_rest (take_source s)) ≡ 0) × P) → Puts old new (flat_map l f)
+  yet_none h = left_none (go (take_count s) refl) so_far.left
+    where
+      go : (n : ℕ) → take_count s ≡ n → take n (iter_rest (take_source s)) ≡ []
+      go zero e = refl
+      go (suc n) e =
+          let none : length (iter_rest (take_source s)) ≡ 0 = (h (omega arith)).0 in
+          rw (nil_from_length (iter_rest (take_source s)) none)

@@ -29,25 +29,30 @@ pub fn same_bytes<'a>(a: &'a [u8], b: &'a [u8]) -> bool
     a == b
 }
 
-// A byte at a place, and the next place.
-pub fn put(out: &mut [u8], at: usize, b: u8) -> usize
-    requires { Room out.old at (b ∷ []) }
-    ensures { Puts out.old out.new at result (b ∷ []) }
-{
-    out[at] = b;
-    at + 1
+// Lent bytes, and the place where the next one is put.
+#[derive(Drop)]
+pub struct Output<'a> {
+    pub bytes: &'a mut [u8],
+    pub at: usize,
 }
 
-// Some bytes from a place on, and the next place.
-pub fn put_bytes(out: &mut [u8], at: usize, bytes: &[u8]) -> usize
-    requires { Room out.old at bytes.now }
-    ensures { Puts out.old out.new at result bytes.now }
-{
-    let mut p = at;
-    let mut i = 0;
-    while i < bytes.len() {
-        p = put(out, p, bytes[i]);
-        i += 1;
+impl<'a> Output<'a> {
+    // One byte more.
+    pub fn put(&mut self, b: u8)
+        requires { Room self.old (b ∷ []) }
+        ensures { Puts self.old self.new (b ∷ []) }
+    {
+        self.bytes[self.at] = b;
+        self.at += 1;
     }
-    p
+
+    // Some bytes more.
+    pub fn put_all(&mut self, bytes: &[u8])
+        requires { Room self.old bytes.now }
+        ensures { Puts self.old self.new bytes.now }
+    {
+        let end = self.at + bytes.len();
+        self.bytes[self.at..end].copy_from_slice(bytes);
+        self.at = end;
+    }
 }

@@ -50,7 +50,7 @@ pub fn write(job: Job, out: &mut [u8]) -> Written
     if out.len() < n {
         return Written::Refused(17, 0);
     }
-    base::put_bytes(&mut *out, 0, &bytes[..n]);
+    out[..n].copy_from_slice(&bytes[..n]);
     Written::Count(n)
 }
 

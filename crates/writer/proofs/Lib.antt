@@ -1,4 +1,2 @@
-pub mod Values
-pub mod Written
 pub mod Meant
 pub mod Most

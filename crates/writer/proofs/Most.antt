@@ -1,5 +1,5 @@
 -- No record's bytes are more than 579: a column is of one table at most. Assumes nothing.
-use mathlib.Core.Path.{◌≡◌, refl, ◌∙◌}
+use mathlib.Core.Path.{◌≡◌, refl}
 use mathlib.Core.Bool.{cond}
 use mathlib.Core.List.{List, [], ◌∷◌, ◌++◌}
 use Prim.Native.Nat.{ℕ, zero, suc, ◌+◌, ◌*◌, ◌≤◌}
@@ -10,6 +10,7 @@ use lib.Dec.{eqb}
 use borrow.Author.Tests.{ne_eqb}
 use Rattle.base.specs.Lists.{flat_map}
 use Rattle.base.specs.Bytes.{Room, Puts}
+use Rattle.base.specs.declared.Output.{Output}
 use Rattle.base.proofs.Bytes.{put_first, room_first, room_next}
 use Rattle.words.specs.Word.{encoded}
 use Rattle.words.specs.Compare.{op_at, number_of_op}
@@ -119,30 +120,31 @@ most r s =
     (omega (arith, tables_most r s.columns, expression_most r.extract s.extract, expression_most r.query s.query))
 
 -- ---- the whole: there is room for each part behind those before it, and in the end the job's bytes are there
-module _ (r : Job) (s : Sized r) {old : List ℕ} (h : 579 ≤ length old) where
-  pub written : {new : List ℕ} {n : ℕ} → Puts old new 0 n (record_bytes r)
-      → (n ≡ length (job_bytes (meaning_of r))) × (new ≡ job_bytes (meaning_of r) ++ drop (length (job_bytes (meaning_of r))) old)
-  written p = rw (meant r) (p.next ∙ omega arith, put_first (record_bytes r) (omega (arith, most r s)) p)
+pub written : (r : Job) {old new : Output} {lent : List ℕ} → old.at ≡ 0 → (old.bytes.ghost_name ≡ new.bytes.ghost_name → lent ≡ new.bytes.now)
+    → Puts old new (record_bytes r)
+    → (new.at ≡ length (job_bytes (meaning_of r))) × (lent ≡ job_bytes (meaning_of r) ++ drop (length (job_bytes (meaning_of r))) old.bytes.now)
+written r none back p = rw (meant r) (put_first (record_bytes r) none back p)
 
-  room_query_end : Room old 0 (to_query r ++ 0xFF ∷ [])
+module _ (r : Job) (s : Sized r) {old : Output} (none : old.at ≡ 0) (h : 579 ≤ length old.bytes.now) where
+  room_query_end : Room old (to_query r ++ 0xFF ∷ [])
   unfolding record_bytes
-  room_query_end = record { room = omega (arith, most r s) }
+  room_query_end = record { room = omega (arith, none, most r s) }
 
-  room_to_query : Room old 0 (to_query r)
+  room_to_query : Room old (to_query r)
   room_to_query = room_first (to_query r) (0xFF ∷ []) room_query_end
 
-  room_to_extract : Room old 0 (to_extract r)
+  room_to_extract : Room old (to_extract r)
   room_to_extract = room_first (to_extract r) (0x21 ∷ expression_bytes r.query) room_to_query
 
-  module _ {new : List ℕ} {p : ℕ} where
-    pub room_tables : Puts old new 0 p start_bytes → Room new p (tables_bytes r)
+  module _ {new : Output} where
+    pub room_tables : Puts old new start_bytes → Room new (tables_bytes r)
     room_tables = room_next start_bytes (tables_bytes r) (room_first (to_tables r) (0x20 ∷ expression_bytes r.extract) room_to_extract)
 
-    pub room_extract : Puts old new 0 p (to_tables r) → Room new p (0x20 ∷ expression_bytes r.extract)
+    pub room_extract : Puts old new (to_tables r) → Room new (0x20 ∷ expression_bytes r.extract)
     room_extract = room_next (to_tables r) (0x20 ∷ expression_bytes r.extract) room_to_extract
 
-    pub room_query : Puts old new 0 p (to_extract r) → Room new p (0x21 ∷ expression_bytes r.query)
+    pub room_query : Puts old new (to_extract r) → Room new (0x21 ∷ expression_bytes r.query)
     room_query = room_next (to_extract r) (0x21 ∷ expression_bytes r.query) room_to_query
 
-    pub room_end : Puts old new 0 p (to_query r) → Room new p (0xFF ∷ [])
+    pub room_end : Puts old new (to_query r) → Room new (0xFF ∷ [])
     room_end = room_next (to_query r) (0xFF ∷ []) room_query_end

@@ -11,166 +11,110 @@ ghost use Rattle.layout.specs.Writing.{job_bytes};
 ghost use Rattle.writer.specs.Parts.{columns_in, column_in, table_bytes, tables_bytes};
 ghost use Rattle.writer.specs.Parts.{each_bytes, comparison_in, clause_bytes, condition_bytes, expression_bytes};
 
+use base::Output;
 use job::{Clause, Column, Comparison, Condition, Expression, Job};
 
 // The most bytes that a job has.
 pub const MAX_JOB_BYTES: usize = 579;
 
-// The lesser of two: a count that is beyond its array means the whole array.
-fn least(a: usize, b: usize) -> usize
-    ensures { result ≡ min a b }
-{
-    if a < b { a } else { b }
-}
-
-// Two bytes: a command and what goes with it, or two operands.
-fn put_pair(out: &mut [u8], at: usize, b: u8, c: u8) -> usize
-    requires { Room out.old at (b ∷ c ∷ []) }
-    ensures { Puts out.old out.new at result (b ∷ c ∷ []) }
-{
-    let p = base::put(out, at, b);
-    base::put(out, p, c)
-}
-
 // A value, in four bytes.
-fn put_value(out: &mut [u8], at: usize, v: i32) -> usize
-    requires { Room out.old at (encoded 4 v) }
-    ensures { Puts out.old out.new at result (encoded 4 v) }
+fn put_value(out: &mut Output, v: i32)
+    requires { Room out.old (encoded 4 v) }
+    ensures { Puts out.old out.new (encoded 4 v) }
 {
-    words::write(out, at, v);
-    at + 4
-}
-
-// What a job's bytes begin with.
-fn put_start(out: &mut [u8]) -> usize
-    requires { 4 ≤ length out.old }
-    ensures { Puts out.old out.new 0 result start_bytes }
-{
-    let start = b"PSJ1";
-    out[0] = start[0];
-    out[1] = start[1];
-    out[2] = start[2];
-    out[3] = start[3];
-    4
+    out.put_all(&v.to_le_bytes());
 }
 
 // A column where it is of table t, else nothing.
-fn put_column(out: &mut [u8], at: usize, c: Column, t: usize) -> usize
-    requires { Room out.old at (column_in t c) }
-    ensures { Puts out.old out.new at result (column_in t c) }
+fn put_column(out: &mut Output, c: &Column, t: usize)
+    requires { Room out.old (column_in t c.now) }
+    ensures { Puts out.old out.new (column_in t c.now) }
 {
-    if c.table as usize != t {
-        return at;
+    if usize::from(c.table) == t {
+        out.put(0x11);
+        put_value(out, c.lo);
+        put_value(out, c.hi);
     }
-    let p = base::put(out, at, 0x11);
-    let q = put_value(out, p, c.lo);
-    put_value(out, q, c.hi)
 }
 
 // Table t: those of the columns that are its own.
-fn put_table(out: &mut [u8], at: usize, job: Job, t: usize) -> usize
-    requires { Room out.old at (table_bytes (columns_in job) t) }
-    ensures { Puts out.old out.new at result (table_bytes (columns_in job) t) }
+fn put_table(out: &mut Output, job: &Job, t: usize)
+    requires { Room out.old (table_bytes (columns_in job.now) t) }
+    ensures { Puts out.old out.new (table_bytes (columns_in job.now) t) }
 {
-    let n = least(job.width, Job::COLUMNS);
-    let mut p = base::put(out, at, 0x10);
-    let mut i = 0;
-    while i < n {
-        p = put_column(out, p, job.columns[i], t);
-        i += 1;
+    out.put(0x10);
+    for c in job.columns.iter().take(job.width) {
+        put_column(out, c, t);
     }
-    p
 }
 
-fn put_tables(out: &mut [u8], at: usize, job: Job) -> usize
-    requires { Room out.old at (tables_bytes job) }
-    ensures { Puts out.old out.new at result (tables_bytes job) }
+fn put_tables(out: &mut Output, job: &Job)
+    requires { Room out.old (tables_bytes job.now) }
+    ensures { Puts out.old out.new (tables_bytes job.now) }
 {
-    let n = least(job.tables, Job::TABLES);
-    let mut p = at;
-    let mut t = 0;
-    while t < n {
-        p = put_table(out, p, job, t);
-        t += 1;
+    for t in 0..job.tables.min(Job::TABLES) {
+        put_table(out, job, t);
     }
-    p
 }
 
 // Command b with each of the first `count` elements of l.
-fn put_each(out: &mut [u8], at: usize, b: u8, l: &[u8], count: usize) -> usize
-    requires { Room out.old at (each_bytes b (take count l.now)) }
-    ensures { Puts out.old out.new at result (each_bytes b (take count l.now)) }
+fn put_each(out: &mut Output, b: u8, l: &[u8], count: usize)
+    requires { Room out.old (each_bytes b (take count l.now)) }
+    ensures { Puts out.old out.new (each_bytes b (take count l.now)) }
 {
-    let n = least(count, l.len());
-    let mut p = at;
-    let mut i = 0;
-    while i < n {
-        p = put_pair(out, p, b, l[i]);
-        i += 1;
+    for x in l.iter().take(count) {
+        out.put_all(&[b, *x]);
     }
-    p
 }
 
 // The number of the op that an op's number means: above 4, that is 4.
 fn op_number(op: u8) -> u8
     ensures { result ≡ number_of_op (op_at op) }
 {
-    if op < 4 { op } else { 4 }
+    op.min(4)
 }
 
-fn put_comparison(out: &mut [u8], at: usize, k: Comparison) -> usize
-    requires { Room out.old at (comparison_in k) }
-    ensures { Puts out.old out.new at result (comparison_in k) }
+fn put_comparison(out: &mut Output, k: &Comparison)
+    requires { Room out.old (comparison_in k.now) }
+    ensures { Puts out.old out.new (comparison_in k.now) }
 {
     let op = op_number(k.op);
     if k.right == 0 {
-        let p = put_pair(out, at, 0x41, op);
-        let q = base::put(out, p, k.left);
-        return put_value(out, q, k.number);
+        out.put_all(&[0x41, op, k.left]);
+        put_value(out, k.number);
+    } else {
+        out.put_all(&[0x42, op, k.left, k.right - 1]);
     }
-    let p = put_pair(out, at, 0x42, op);
-    put_pair(out, p, k.left, k.right - 1)
 }
 
-fn put_clause(out: &mut [u8], at: usize, c: Clause) -> usize
-    requires { Room out.old at (clause_bytes c) }
-    ensures { Puts out.old out.new at result (clause_bytes c) }
+fn put_clause(out: &mut Output, c: &Clause)
+    requires { Room out.old (clause_bytes c.now) }
+    ensures { Puts out.old out.new (clause_bytes c.now) }
 {
-    let n = least(c.size, Job::COMPARISONS);
-    let mut p = base::put(out, at, 0x40);
-    let mut i = 0;
-    while i < n {
-        p = put_comparison(out, p, c.comparisons[i]);
-        i += 1;
+    out.put(0x40);
+    for k in c.comparisons.iter().take(c.size) {
+        put_comparison(out, k);
     }
-    p
 }
 
-fn put_condition(out: &mut [u8], at: usize, k: Condition) -> usize
-    requires { Room out.old at (condition_bytes k) }
-    ensures { Puts out.old out.new at result (condition_bytes k) }
+fn put_condition(out: &mut Output, k: &Condition)
+    requires { Room out.old (condition_bytes k.now) }
+    ensures { Puts out.old out.new (condition_bytes k.now) }
 {
-    let n = least(k.size, Job::CLAUSES);
-    let mut p = at;
-    let mut q = 0;
-    while q < n {
-        p = put_clause(out, p, k.clauses[q]);
-        q += 1;
+    for c in k.clauses.iter().take(k.size) {
+        put_clause(out, c);
     }
-    p
 }
 
 // An expression, behind the command that it begins with.
-fn put_expression(out: &mut [u8], at: usize, b: u8, e: Expression) -> usize
-    requires { Room out.old at (b ∷ expression_bytes e) }
-    ensures { Puts out.old out.new at result (b ∷ expression_bytes e) }
+fn put_expression(out: &mut Output, b: u8, e: &Expression)
+    requires { Room out.old (b ∷ expression_bytes e.now) }
+    ensures { Puts out.old out.new (b ∷ expression_bytes e.now) }
 {
-    let used = e.used;
-    let outputs = e.outputs;
-    let p = base::put(out, at, b);
-    let q = put_each(out, p, 0x30, &used, e.tables);
-    let s = put_each(out, q, 0x31, &outputs, e.width);
-    put_condition(out, s, e.condition)
+    out.put(b);
+    put_each(out, 0x30, &e.used, e.tables);
+    put_each(out, 0x31, &e.outputs, e.width);
+    put_condition(out, &e.condition);
 }
 
 // The bytes of the job that a record stands for, and how many they are. Any record stands for one.
@@ -179,9 +123,11 @@ pub fn write(job: Job, out: &mut [u8]) -> usize
     ensures count { result ≡ length (job_bytes (meaning_of job)) }
     ensures bytes { out.new ≡ job_bytes (meaning_of job) ++ drop (length (job_bytes (meaning_of job))) out.old }
 {
-    let a = put_start(out);
-    let b = put_tables(out, a, job);
-    let c = put_expression(out, b, 0x20, job.extract);
-    let d = put_expression(out, c, 0x21, job.query);
-    base::put(out, d, 0xFF)
+    let mut to = Output { bytes: out, at: 0 };
+    to.put_all(b"PSJ1");
+    put_tables(&mut to, &job);
+    put_expression(&mut to, 0x20, &job.extract);
+    put_expression(&mut to, 0x21, &job.query);
+    to.put(0xFF);
+    to.at
 }

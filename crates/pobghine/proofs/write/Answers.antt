@@ -1,9 +1,6 @@
 -- `pobghine::write` meets its contract: 12, 17, or the job's bytes and their number. Assumes nothing.
-use mathlib.Core.Path.{sym, ◌∙◌}
-use native.Mathlib.Omega.{arith}
-use lib.Seq.{length-take-le}
+use mathlib.Core.Path.{refl, sym, ◌∙◌}
 use borrow.Author.Tests.{not-true, not-false}
-use Rattle.base.proofs.Bytes.{put_first}
 use Rattle.pobghine.proofs.Outcomes.{fits, front, never_read, too_few, enough}
 use Rattle.pobghine.proofs.write.Goals as goal
 
@@ -20,23 +17,11 @@ slice_bounds-bytes-end c =
     let w = c.write-n in
     fits c.args.job w.new.out w.result _ w.ensures.count w.ensures.bytes
 
-pub slice_bounds-put_bytes-end : goal.slice_bounds-put_bytes-end
-slice_bounds-put_bytes-end c =
-    let w = c.write-n in
-    sym (length-take-le _ _ (fits c.args.job w.new.out w.result _ w.ensures.count w.ensures.bytes))
-
-pub put_bytes-requires : goal.put_bytes-requires
-put_bytes-requires c =
-    let w = c.write-n in
-    let few = fits c.args.job w.new.out w.result _ w.ensures.count w.ensures.bytes in
-    record { room = omega (arith, length-take-le w.result w.new.out few, c.if-out-n.false) }
-
 pub returns : goal.returns
 returns c =
     let w = c.write-n in
     let r = c.args.job in
-    let e = front r w.new.out w.result _ w.ensures.count w.ensures.bytes in
+    let copied = c.copy_from_slice.ensures.after ∙ front r w.new.out w.result _ w.ensures.count w.ensures.bytes in
     let done = enough r c.args.out.now (sym c.is_read.ensures ∙ not-false _ c.if-not-is_read.false-raw) w.result w.ensures.count
-    c.if-out-n.false _
-    (put_first _ (omega (arith, w.ensures.count, c.if-out-n.false)) (rw e at c.put_bytes.ensures)) in
+    c.if-out-n.false _ (rw (copied, w.ensures.count) refl) in
     record { answer = done.0; bytes = done.1 }

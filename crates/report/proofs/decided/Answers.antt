@@ -28,12 +28,8 @@ verdict-requires c =
 
 pub returns-in-Refused : goal.returns-in-Refused
 returns-in-Refused c =
-    let e = c.in-Refused.is in
-    let e' = refused_record c.args.job c.decide-d.ensures.answer c.decide-d.ensures.listing e in
-    record { count = rw e' at c.refusal.ensures.count; bytes = rw e' at c.refusal.ensures.bytes }
+    rw (refused_record c.args.job c.decide-d.ensures.answer c.decide-d.ensures.listing c.in-Refused.is) at c.refusal.ensures
 
 pub returns-in-Kind : goal.returns-in-Kind
 returns-in-Kind c =
-    let e = c.in-Kind.is in
-    let e' = judged_record c.args.job c.decide-d.ensures.answer c.decide-d.ensures.listing e in
-    record { count = rw e' at c.verdict.ensures.count; bytes = rw e' at c.verdict.ensures.bytes }
+    rw (judged_record c.args.job c.decide-d.ensures.answer c.decide-d.ensures.listing c.in-Kind.is) at c.verdict.ensures

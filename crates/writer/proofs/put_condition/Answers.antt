@@ -1,17 +1,19 @@
 -- `writer::put_condition` meets its contract. Assumes nothing.
-use mathlib.Core.List.{[]}
-use native.Mathlib.Omega.{arith}
-use Rattle.base.proofs.Bytes.{turns_begin, turn_next, turns_end}
+use borrow.Author.Rules.{rules}
+use Rattle.base.proofs.Bytes.{yet_all, yet_room, yet_next, yet_none}
 use Rattle.writer.specs.Parts.{condition_bytes}
 use Rattle.writer.proofs.put_condition.Goals as goal
 
-pub loop-q-init : goal.loop-q-init
+pub loop-c-init : goal.loop-c-init
 unfolding condition_bytes
-loop-q-init c = turns_begin (omega arith) c.requires
+loop-c-init c = yet_all (search rules) c.requires
 
-pub loop-q-preserved : goal.loop-q-preserved
-loop-q-preserved c = turn_next c.loop-q.invariant (record { size = 0; comparisons = [] }) (omega arith) c.put_clause-p.ensures
+pub put_clause-requires : goal.put_clause-requires
+put_clause-requires c = yet_room c.loop-c.invariant _ c.in-Some.ensures.steps
+
+pub loop-c-preserved : goal.loop-c-preserved
+loop-c-preserved c = yet_next c.loop-c.invariant c.in-Some.ensures.steps c.put_clause.ensures
 
 pub returns : goal.returns
 unfolding condition_bytes
-returns c = turns_end c.loop-q.invariant (omega arith)
+returns c = yet_none c.loop-c.invariant c.in-None.ensures.steps

@@ -1,11 +1,8 @@
 -- One clause more with each turn. Assumes nothing.
-use Prim.Native.Nat.{◌-◌}
-use Rattle.base.proofs.Bytes.{Turn}
+use lib.ListN.{take}
+use Rattle.base.proofs.Bytes.{Yet}
 use Rattle.writer.specs.Parts.{clause_bytes}
 use Rattle.writer.proofs.put_condition.Given as goal
 
-abbrev pub invariant-loop-q : goal.invariant-loop-q
-invariant-loop-q l = Turn clause_bytes l.k.size l.k.clauses l.n l.initial.out l.at l.out l.p l.q
-
-abbrev pub decreases-loop-q : goal.decreases-loop-q
-decreases-loop-q l = l.n - l.q
+abbrev pub invariant-loop-c : goal.invariant-loop-c
+invariant-loop-c l = Yet clause_bytes (take l.k.size l.k.clauses) l.c-iterator l.initial.out l.out

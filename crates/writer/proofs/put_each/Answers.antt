@@ -1,7 +1,9 @@
 -- `writer::put_each` meets its contract. Assumes nothing.
-use native.Mathlib.Omega.{arith}
-use Rattle.base.proofs.Bytes.{turn_next}
+use Rattle.base.proofs.Bytes.{yet_next, yet_none}
 use Rattle.writer.proofs.put_each.Goals as goal
 
-pub loop-i-preserved : goal.loop-i-preserved
-loop-i-preserved c = turn_next c.loop-i.invariant 0 (omega arith) c.put_pair-p.ensures
+pub loop-x-preserved : goal.loop-x-preserved
+loop-x-preserved c = yet_next c.loop-x.invariant c.in-Some.ensures.steps c.put_all.ensures
+
+pub returns : goal.returns
+returns c = yet_none c.loop-x.invariant c.in-None.ensures.steps

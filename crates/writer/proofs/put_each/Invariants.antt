@@ -1,11 +1,8 @@
--- The command and one element more with each turn. Assumes nothing.
+-- One pair more with each turn. Assumes nothing.
+use lib.ListN.{take}
 use mathlib.Core.List.{[], ◌∷◌}
-use Prim.Native.Nat.{◌-◌}
-use Rattle.base.proofs.Bytes.{Turn}
+use Rattle.base.proofs.Bytes.{Yet}
 use Rattle.writer.proofs.put_each.Given as goal
 
-abbrev pub invariant-loop-i : goal.invariant-loop-i
-invariant-loop-i l = Turn (λ x. l.b ∷ x ∷ []) l.count l.l l.n l.initial.out l.at l.out l.p l.i
-
-abbrev pub decreases-loop-i : goal.decreases-loop-i
-decreases-loop-i l = l.n - l.i
+abbrev pub invariant-loop-x : goal.invariant-loop-x
+invariant-loop-x l = Yet (λ x. l.b ∷ x ∷ []) (take l.count l.l) l.x-iterator l.initial.out l.out

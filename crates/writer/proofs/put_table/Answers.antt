@@ -1,25 +1,24 @@
 -- `writer::put_table` meets its contract. Assumes nothing.
 use mathlib.Core.List.{[], ◌∷◌}
-use native.Mathlib.Omega.{arith}
-use Rattle.base.proofs.Bytes.{and_then_lem, room_first, room_next, turns_begin, turn_room, turn_next, turns_end}
-use Rattle.job.specs.Record.{no_column}
+use borrow.Author.Rules.{rules}
+use Rattle.base.proofs.Bytes.{and_then_lem, room_first, room_next, yet_all, yet_room, yet_next, yet_none}
 use Rattle.writer.specs.Parts.{table_bytes}
 use Rattle.writer.proofs.put_table.Goals as goal
 
-pub put-p-requires : goal.put-p-requires
+pub put-requires : goal.put-requires
 unfolding table_bytes
-put-p-requires c = room_first (0x10 ∷ []) _ c.requires
+put-requires c = room_first (0x10 ∷ []) _ c.requires
 
-pub loop-i-init : goal.loop-i-init
+pub loop-c-init : goal.loop-c-init
 unfolding table_bytes
-loop-i-init c = turns_begin (omega arith) (room_next (0x10 ∷ []) _ c.requires c.put-p.ensures)
+loop-c-init c = yet_all (search rules) (room_next (0x10 ∷ []) _ c.requires c.put.ensures)
 
-pub put_column-p-requires : goal.put_column-p-requires
-put_column-p-requires c = turn_room c.loop-i.invariant no_column (omega arith)
+pub put_column-requires : goal.put_column-requires
+put_column-requires c = yet_room c.loop-c.invariant _ c.in-Some.ensures.steps
 
-pub loop-i-preserved : goal.loop-i-preserved
-loop-i-preserved c = turn_next c.loop-i.invariant no_column (omega arith) c.put_column-p.ensures
+pub loop-c-preserved : goal.loop-c-preserved
+loop-c-preserved c = yet_next c.loop-c.invariant c.in-Some.ensures.steps c.put_column.ensures
 
 pub returns : goal.returns
 unfolding table_bytes
-returns c = and_then_lem c.put-p.ensures (turns_end c.loop-i.invariant (omega arith))
+returns c = and_then_lem c.put.ensures (yet_none c.loop-c.invariant c.in-None.ensures.steps)

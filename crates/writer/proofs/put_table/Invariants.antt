@@ -1,11 +1,7 @@
 -- One column more with each turn. Assumes nothing.
-use Prim.Native.Nat.{◌-◌}
-use Rattle.base.proofs.Bytes.{Turn}
-use Rattle.writer.specs.Parts.{column_in}
+use Rattle.base.proofs.Bytes.{Yet}
+use Rattle.writer.specs.Parts.{columns_in, column_in}
 use Rattle.writer.proofs.put_table.Given as goal
 
-abbrev pub invariant-loop-i : goal.invariant-loop-i
-invariant-loop-i l = Turn (column_in l.t) l.job.width l.job.columns l.n l.initial.out l.initial.p l.out l.p l.i
-
-abbrev pub decreases-loop-i : goal.decreases-loop-i
-decreases-loop-i l = l.n - l.i
+abbrev pub invariant-loop-c : goal.invariant-loop-c
+invariant-loop-c l = Yet (column_in l.t) (columns_in l.job) l.c-iterator l.initial.out l.out

@@ -1,12 +1,10 @@
 -- One table more with each turn. Assumes nothing.
-use Prim.Native.Nat.{◌-◌}
-use Rattle.base.proofs.Bytes.{Turn}
+use lib.ListN.{take, drop}
+use Rattle.base.proofs.Bytes.{Left}
 use Rattle.job.specs.Meaning.{table_numbers}
 use Rattle.writer.specs.Parts.{columns_in, table_bytes}
 use Rattle.writer.proofs.put_tables.Given as goal
 
 abbrev pub invariant-loop-t : goal.invariant-loop-t
-invariant-loop-t l = Turn (table_bytes (columns_in l.job)) l.job.tables table_numbers l.n l.initial.out l.at l.out l.p l.t
-
-abbrev pub decreases-loop-t : goal.decreases-loop-t
-decreases-loop-t l = l.n - l.t
+invariant-loop-t l =
+    Left (table_bytes (columns_in l.job)) (take l.job.tables table_numbers) (drop l.t (take l.job.tables table_numbers)) l.initial.out l.out
