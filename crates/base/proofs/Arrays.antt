@@ -2,16 +2,15 @@
 use mathlib.Core.Path.{◌≡◌, refl, sym, ap, ◌∙◌}
 use mathlib.Core.Logic.{⊎_elim}
 use mathlib.Core.List.Memᴰ
-use mathlib.Core.List.{List, [], ◌∷◌, ◌++◌, map, map-append, append_assoc, append-nil}
+use mathlib.Core.List.{List, [], ◌∷◌, ◌++◌, map, append_assoc, append-nil}
 use Prim.Native.Nat.{ℕ, zero, suc, ◌+◌, ◌-◌, ◌≤◌, ◌<◌}
 use native.Mathlib.Omega.{arith}
 use native.Mathlib.Numerals.{add-one, unary_clauses}
 use native.Mathlib.Nat.{eq-or-lt_of_le, le_of_suc-le-suc, zero-add}
-use lib.ListN.{length, get_or, set, take, drop, replicate, length-append, length-set, length-map, length-replicate, length-drop, drop_of_length-le, get_or-append}
+use lib.ListN.{length, get_or, set, take, drop, replicate, length-append, length-set, length-replicate, length-drop, drop_of_length-le, get_or-append}
 use lib.Seq.{set-append_seam, set-append_left, get_or-append-add, get_or-set_same, get_or-set_other, set-get_or, set-set, set_comm, ext_get_or, take-append_seam, drop-append_seam, get_or-drop}
 use Rattle.base.specs.Lists.{◌∈◌, tabulate}
 use Rattle.base.specs.Arrays.{padded, EmptyPast, filled}
-use Rattle.base.proofs.Lists.{map_snoc, map_replicate}
 use Rattle.base.proofs.Tests.{by_less}
 use Rattle.base.proofs.Places.{behind_at, replicate_at, tabulated, tabulate_length, tabulate_at, tabulate_snoc, tabulate_map}
 
@@ -68,19 +67,6 @@ module _ {A : Type 0} (n : ℕ) (d : A) (w : ℕ) (f : ℕ → A) where
   entries_more h =
       ap (λ (i : ℕ). set (padded n d (tabulate w f)) i (f w)) (sym (tabulate_length w f))
       ∙ padded_more n d (tabulate w f) (f w) (omega (arith, tabulate_length w f)) ∙ rw (add-one w, ← tabulate_snoc w f)
-
--- its image
-pub map_padded : {A B : Type 0} (f : A → B) (n : ℕ) (d : A) (l : List A) → map f (padded n d l) ≡ padded n (f d) (map f l)
-map_padded f n d l =
-    map-append f l (replicate (n - length l) d) ∙ rw (map_replicate f (n - length l) d, length-map l f)
-
--- the image of one element more
-pub mapped_more : {A B : Type 0} (n : ℕ) (d : B) (f : A → B) (l : List A) (x : A) → length l < n
-    → set (padded n d (map f l)) (length l) (f x) ≡ padded n d (map f (l ++ x ∷ []))
-mapped_more n d f l x h =
-    let e : length (map f l) ≡ length l = length-map l f in
-    ap (λ (i : ℕ). set (padded n d (map f l)) i (f x)) (sym e) ∙ padded_more n d (map f l) (f x) (omega arith)
-    ∙ ap (padded n d) (sym (map_snoc f l x))
 
 pub drop_replicate : {A : Type 0} (n m : ℕ) (d : A) → drop n (replicate m d) ≡ replicate (m - n) d
 drop_replicate zero m d = simp unary_clauses

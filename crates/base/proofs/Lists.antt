@@ -261,9 +261,6 @@ pub map_snoc : {A B : Type 0} (f : A → B) (l : List A) (x : A) → map f (l ++
 map_snoc f [] x = refl
 map_snoc f (y ∷ l) x = ap (λ (m : List _). f y ∷ m) (map_snoc f l x)
 
-pub flat_map_snoc : {A B : Type 0} (f : A → List B) (xs : List A) (x : A) → flat_map (xs ++ x ∷ []) f ≡ flat_map xs f ++ f x
-flat_map_snoc f xs x = flat_map_append xs (x ∷ []) f ∙ rw append-nil
-
 -- ---- images
 module _ {A B : Type 0} where
   pub flat_map_map : {C : Type 0} (f : A → B) (g : B → List C) (xs : List A) → flat_map (map f xs) g ≡ flat_map xs (λ x. g (f x))

@@ -55,13 +55,6 @@ passed {r} e h = sym e ∙ not-false r h
 pub failed : {r b : Bool} → r ≡ b → not r ≡ true → b ≡ false
 failed {r} e h = sym e ∙ not-true r h
 
--- and is the first of two
-pub and_fails : {r a : Bool} (b : Bool) → r ≡ a → not r ≡ true → false ≡ (a && b)
-and_fails {r} {a} b e h = let f : a ≡ false = failed e h in rw f
-
-pub and_passes : {r a b q : Bool} → r ≡ a → not r ≡ false → q ≡ b → q ≡ (a && b)
-and_passes {r} {a} e h f = let t : a ≡ true = passed e h in rw t f
-
 -- ---- one of two numbers is less than the other, or not
 pub by_less : {P : Type 0} (m n : ℕ) → (m < n → P) → (n ≤ m → P) → P
 by_less {P} m n less more = go (ltb m n) refl

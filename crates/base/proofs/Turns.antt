@@ -5,10 +5,9 @@ use mathlib.Core.List.{List}
 use mathlib.Core.Option.{Option, none, some}
 use Prim.Native.Nat.{ℕ, ◌+◌, ◌<◌, ◌≤◌}
 use native.Mathlib.Numerals.{add-one}
-use native.Mathlib.Omega.{arith}
 use lib.ListN.{length, get_or, drop, drop_of_length-le}
 use lib.Seq.{drop-cons}
-use Rattle.base.specs.Lists.{any_of, all_of, pairwise}
+use Rattle.base.specs.Lists.{any_of, all_of}
 use Rattle.base.specs.Options.{first_of}
 
 -- ---- of one list: whether each passes
@@ -32,24 +31,6 @@ module _ {A : Type 0} (p : A → Bool) (d : A) (xs : List A) (i : ℕ) {o : Bool
 
   pub any_done : length xs ≤ i → false ≡ o
   any_done h = rw (drop_of_length-le xs h) at left
-
--- ---- of two lists, place by place
-module _ {A B : Type 0} (p : A → B → Bool) (d : A) (e : B) (xs : List A) (ys : List B) (same : length ys ≡ length xs) (i : ℕ) where
-  module _ (left : pairwise p (drop i xs) (drop i ys) ≡ pairwise p xs ys) where
-    pub pairs_fail : i < length xs → p (get_or xs i d) (get_or ys i e) ≡ false → false ≡ pairwise p xs ys
-    pairs_fail h f =
-        let k : i < length ys = omega arith in
-        rw (drop-cons xs i d h, drop-cons ys i e k, f) at left
-
-    pub pairs_more : i < length xs → p (get_or xs i d) (get_or ys i e) ≡ true → pairwise p (drop (i + 1) xs) (drop (i + 1) ys) ≡ pairwise p xs ys
-    pairs_more h f =
-        let k : i < length ys = omega arith in
-        rw (add-one i) (rw (drop-cons xs i d h, drop-cons ys i e k, f) at left)
-
-    pub pairs_done : length xs ≤ i → true ≡ pairwise p xs ys
-    pairs_done h =
-        let k : length ys ≤ i = omega arith in
-        rw (drop_of_length-le xs h, drop_of_length-le ys k) at left
 
 -- ---- for which element something is given first
 module _ {A B : Type 0} (f : A → Option B) (d : A) (xs : List A) (i : ℕ) {o : Option B} (left : first_of (drop i xs) f ≡ o) where

@@ -57,12 +57,6 @@ module _ (k : model.Condition) where
   unfolding choices_of
   choice_past q h = padded_past 4 spare (map ways_of k) q (omega (arith, length-map k ways_of))
 
-  pub few_ways : ((c : model.Clause) → c ∈ k → length c ≤ 6) → (q : ℕ) → length (get_or (choices_of k) q spare) ≤ 12
-  unfolding choices_of ways_of
-  few_ways short = padded_each (λ (ws : List Constraint). length ws ≤ 12) spare spare (omega arith) (omega arith) 4 (map ways_of k) (λ ws m.
-      let (c, i, e) = Memᴰ.of_map ways_of k m in
-      rw (← e) (omega (arith, clause_length [] c, short c i)))
-
 -- ---- The condition of a record
 
 sizes : (n : ℕ) (cs : List Clause) → ((q : ℕ) → q < n → (get_or cs q (record { size = 0; comparisons = [] })).size ≤ 6)

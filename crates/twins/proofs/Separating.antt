@@ -117,7 +117,3 @@ pub no_columns : {n : ℕ} {d cs twin : List ℕ} → Separates n d cs twin → 
     → first_of (drop i cs) (λ c. apart c (at twin c) (zone_in (n + 1) d)) ≡ some_apart (at twin) cs (zone_in (n + 1) d)
     → (e : List ℕ) → Ends (n + 1) (some_apart (at twin) cs (zone_in (n + 1) d)) false e
 no_columns {n} {d} {cs} {twin} u i h rest e = ends_none (n + 1) e (first_none (λ c. apart c (at twin c) (zone_in (n + 1) d)) 0 cs i rest h)
-
--- one more than a twin is a byte
-pub twin_fits : {n : ℕ} {d cs twin : List ℕ} → Separates n d cs twin → (i : ℕ) → i < length cs → {p : ℕ} → p ≡ at cs i → at twin p + 1 < 256
-twin_fits {n} {d} {cs} {twin} u i h is = rw is (omega (arith, u.partners.second_in i h, u.in_array.small))
