@@ -105,7 +105,8 @@ yet s = take (take_count s) (iter_rest (take_source s))
 pub record Yet {A : Type 0} (f : A → List ℕ) (l : List A) (s : Take (Iter A)) (old new : Output) : Type 0 where
   pub left : Left f l (yet s) old new
 
-pub yet_all : {A : Type 0} {f : A → List ℕ} {l : List A} {s : Take (Iter A)} {out : Output} → yet s ≡ l → Room out (flat_map l f) → Yet f l s out out
+pub yet_all : {A : Type 0} {f : A → List ℕ} {l : List A} {s : Take (Iter A)} {out : Output} → yet s ≡ l
+    → Room out (flat_map l f) → Yet f l s out out
 yet_all is r = record { left = rw is (left_all r) }
 
 module _ {A : Type 0} {f : A → List ℕ} {l : List A} {old new : Output} {s : Take (Iter A)} (so_far : Yet f l s old new) where
@@ -120,7 +121,8 @@ module _ {A : Type 0} {f : A → List ℕ} {l : List A} {old new : Output} {s : 
     yet_more : {newer : Output} → Puts new newer (f x) → Left f l (take n more) old newer
     yet_more y = left_next one_yet so_far.left y
 
-  pub yet_next : {t : Take (Iter A)} {x : A} → (iter_rest (take_source s) ≡ x ∷ iter_rest (take_source t)) × (take_count t + 1 ≡ take_count s)
+  pub yet_next : {t : Take (Iter A)} {x : A}
+      → (iter_rest (take_source s) ≡ x ∷ iter_rest (take_source t)) × (take_count t + 1 ≡ take_count s)
       → {newer : Output} → Puts new newer (f x) → Yet f l t old newer
   yet_next h y = record { left = yet_more _ h y }
 
