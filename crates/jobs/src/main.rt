@@ -11,18 +11,12 @@ ghost use Rattle.std.specs.Prelude.{◌+◌, ◌<◌, ◌≤◌, length};
 use databases::Database;
 use job::Job;
 use pobghine::{Decision, Written};
-use std::io::{Read, Write};
+use std::io::{ErrorKind, Read, Result, Write};
 
-// The functions that answer with a bool say whether a further job may follow.
-fn put_head(output: &mut impl Write, number: u8, n: usize) -> bool {
-    let head = [
-        number,
-        (n % 256) as u8,
-        (n / 256 % 256) as u8,
-        (n / 65536 % 256) as u8,
-        (n / 16777216 % 256) as u8,
-    ];
-    output.write_all(&head).is_ok()
+fn put_head(output: &mut impl Write, number: u8, n: usize) -> Result<()> {
+    let mut head = [number; 5];
+    head[1..].copy_from_slice(&n.to_le_bytes()[..4]);
+    output.write_all(&head)
 }
 
 // A database from a place on.
@@ -37,56 +31,48 @@ fn put_database(d: Database, out: &mut [u8], at: usize)
     }
 }
 
-fn put_verdict(output: &mut impl Write, job: Job) -> bool {
+fn put_verdict(output: &mut impl Write, job: Job) -> Result<()> {
     let d = pobghine::decide(job);
     let answer = d.answer;
     let Decision::Kind(kind) = answer else {
-        return false;
+        // What is written is decided, so this never comes up.
+        return Err(ErrorKind::InvalidData.into());
     };
     let mut out = [0u8; 153];
     out[0] = kind;
     out[1..17].copy_from_slice(&d.listing);
     put_database(d.first, &mut out, 17);
     put_database(d.second, &mut out, 85);
-    output.write_all(&out).is_ok()
+    output.write_all(&out)
 }
 
-fn answer_whole(output: &mut impl Write, job: Job) -> bool {
+fn answer_whole(output: &mut impl Write, job: Job) -> Result<()> {
     let mut out = [0u8; writer::MAX_JOB_BYTES];
-    let written = pobghine::write(job, &mut out);
-    match written {
+    match pobghine::write(job, &mut out) {
         Written::Refused(number, at) => put_head(output, number, at),
         Written::Count(n) => {
-            if !put_head(output, 0, n) {
-                return false;
-            }
-            if output.write_all(&out[..n]).is_err() {
-                return false;
-            }
+            put_head(output, 0, n)?;
+            output.write_all(&out[..n])?;
             put_verdict(output, job)
         }
     }
 }
 
 // Reads a job into s, which it fills, and answers it.
-fn answer_job<R: Read, W: Write>(input: &mut R, output: &mut W, s: &mut [u8]) -> bool {
-    if input.read_exact(s).is_err() {
-        return false;
-    }
+fn answer_job<R: Read, W: Write>(input: &mut R, output: &mut W, s: &mut [u8]) -> Result<()> {
+    input.read_exact(s)?;
     match pobghine::read(s) {
         Ok(job) => answer_whole(output, job),
         Err(refusal) => put_head(output, u8::from(refusal.fault), refusal.at),
     }
 }
 
-fn next_job<R: Read, W: Write>(input: &mut R, output: &mut W, s: &mut [u8]) -> bool
+fn next_job<R: Read, W: Write>(input: &mut R, output: &mut W, s: &mut [u8]) -> Result<()>
     requires { 65535 ≤ length s.old }
 {
     let mut head = [0u8; 2];
-    if input.read_exact(&mut head).is_err() {
-        return false;
-    }
-    let size = base::wide(head[0]) + base::wide(head[1]) * 256;
+    input.read_exact(&mut head)?;
+    let size = usize::from(u16::from_le_bytes(head));
     answer_job(input, output, &mut s[..size])
 }
 
@@ -96,7 +82,7 @@ fn main(rt: HostRuntime) {
     let mut s = [0u8; 65535];
     // A loop ends by a count; no input has so many jobs.
     for _ in 0..u64::MAX {
-        if !next_job(&mut input, &mut output, &mut s) {
+        if next_job(&mut input, &mut output, &mut s).is_err() {
             return;
         }
     }
