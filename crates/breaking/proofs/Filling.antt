@@ -4,11 +4,9 @@ use mathlib.Core.List.{List, [], ◌∷◌, map}
 use Prim.Native.Nat.{ℕ, ◌+◌, ◌*◌, ◌<◌, ◌≤◌}
 use native.Mathlib.Numerals.{add-one}
 use native.Mathlib.Omega.{arith}
-use lib.ListN.{length, get_or, take, drop, set, replicate, length-set, length-map, drop_of_length-le}
+use lib.ListN.{length, get_or, take, drop, set, length-set, length-map, drop_of_length-le}
 use lib.Seq.{drop-cons, get_or-set_same, get_or-set_other, ext_get_or}
-use native.Mathlib.Decide.{ℕ_discrete}
-use Rattle.std.proofs.lemmas.List.{get_or-replicate}
-use Rattle.base.proofs.Tests.{by_less}
+use borrow.Author.Count.{below_more}
 use Rattle.base.proofs.Places.{map_at}
 use Rattle.model.specs.Tables.{Clause, Condition}
 use Rattle.job.specs.Record.{no_comparison}
@@ -18,7 +16,7 @@ use Rattle.solver.specs.declared.Constraints.{Constraints}
 use Rattle.solver.specs.Comparisons.{negations_of}
 use Rattle.solver.proofs.Progress.{Next}
 use Rattle.breaking.specs.declared.Ways.{Ways}
-use Rattle.breaking.specs.Breaking.{with_way, with_second, with_clause, ways_of, free, choices_of}
+use Rattle.breaking.specs.Breaking.{with_way, with_second, with_clause, ways_of, choices_of}
 use Rattle.breaking.specs.Places.{ways_in, no_ways, choices_in}
 use Rattle.breaking.proofs.Sizes.{spare, four_choices, choice_at, choice_past}
 
@@ -51,58 +49,41 @@ module _ {c : Clause} {i : ℕ} {list : List Constraint} {count : ℕ} (s : Putt
 
 -- ---- The choices of a condition
 
--- the ways of the first q clauses stand in their places, and past them the ways of a clause that every row breaks
+-- the ways of the first q clauses stand in their places
 pub record Laying (k : Condition) (q : ℕ) (ways : List Ways) : Type 0 where
   pub four : length ways ≡ 4
-  pub few : (j : ℕ) → j < 4 → (get_or ways j no_ways).count ≤ 12
-  pub room : (j : ℕ) → j < 4 → length (get_or ways j no_ways).list ≡ 12
-  pub done : (j : ℕ) → j < q → ways_in (get_or ways j no_ways) ≡ ways_of (get_or k j [])
-  pub spare_rest : (j : ℕ) → q ≤ j → j < 4 → ways_in (get_or ways j no_ways) ≡ spare
+  pub few : (j : ℕ) → j < q → (get_or ways j no_ways).count ≤ 12
+  pub done : (j : ℕ) → j < q → ways_in (get_or ways j no_ways) ≡ get_or (choices_of k) j spare
 
--- what stands in every place at first
-abbrev pub free_ways : Ways
-free_ways = record { count = 1; list = replicate 12 free }
+pub lay_start : (k : Condition) (ways : List Ways) → length ways ≡ 4 → Laying k 0 ways
+lay_start k ways four = record { four = four; few = λ j h. absurd (omega arith); done = λ j h. absurd (omega arith) }
 
-each_free : (P : Ways → Type 0) → P free_ways → (j : ℕ) → j < 4 → P (get_or (replicate 4 free_ways) j no_ways)
-each_free P h j l = rw (get_or-replicate 4 j free_ways no_ways l) h
-
-pub lay_start : (k : Condition) → Laying k 0 (replicate 4 free_ways)
-lay_start k = record {
-  four = refl;
-  few = each_free (λ w. w.count ≤ 12) (omega arith);
-  room = each_free (λ w. length w.list ≡ 12) refl;
-  done = λ j h. absurd (omega arith);
-  spare_rest = λ j h l. each_free (λ w. ways_in w ≡ spare) refl j l;
-}
-
-module _ {k : Condition} {q : ℕ} {ways : List Ways} (s : Laying k q ways) (few_clauses : length k ≤ 4) where
-  -- what holds of each place, once w is put into place q
-  put_each : (P : ℕ → Ways → Type 0) (w : Ways) → q < 4 → P q w → ((j : ℕ) → j < 4 → ¬ (j ≡ q) → P j (get_or ways j no_ways))
-      → (j : ℕ) → j < 4 → P j (get_or (set ways q w) j no_ways)
-  put_each P w more here there j l = go (ℕ_discrete j q)
-    where
-      go : Dec (j ≡ q) → P j (get_or (set ways q w) j no_ways)
-      go (yes e) = rw (e, get_or-set_same ways q w no_ways (omega (arith, s.four))) here
-      go (no n) = rw (get_or-set_other ways q j w no_ways n) (there j l n)
+module _ {k : Condition} {q : ℕ} {ways : List Ways} (s : Laying k q ways) where
+  -- what holds of each place before q, and of w, holds of each once w is put into place q
+  put_each : (P : ℕ → Ways → Type 0) (w : Ways) → q < 4 → P q w → ((j : ℕ) → j < q → P j (get_or ways j no_ways))
+      → (j : ℕ) → j < q + 1 → P j (get_or (set ways q w) j no_ways)
+  put_each P w more here before = below_more (λ j. P j (get_or (set ways q w) j no_ways)) q
+      (λ j l. rw (get_or-set_other ways q j w no_ways (λ e. omega arith)) (before j l))
+      (rw (get_or-set_same ways q w no_ways (omega (arith, s.four))) here)
 
   -- one clause more
-  pub lay_turn : (w : Ways) → q < length k → ways_in w ≡ ways_of (get_or k q []) → w.count ≤ 12 → length w.list ≡ 12
-      → Laying k (q + 1) (set ways q w)
-  lay_turn w more is small size = record {
+  lay_turn : (w : Ways) → q < 4 → ways_in w ≡ get_or (choices_of k) q spare → w.count ≤ 12 → Laying k (q + 1) (set ways q w)
+  lay_turn w more is small = record {
     four = length-set ways q w ∙ s.four;
-    few = put_each (λ j x. x.count ≤ 12) w (omega arith) small (λ j l n. s.few j l);
-    room = put_each (λ j x. length x.list ≡ 12) w (omega arith) size (λ j l n. s.room j l);
-    done = λ j h. put_each (λ j x. j < q + 1 → ways_in x ≡ ways_of (get_or k j [])) w (omega arith) (λ g. is)
-        (λ j l n g. s.done j (omega arith)) j (omega arith) h;
-    spare_rest = λ j h l. put_each (λ j x. q + 1 ≤ j → ways_in x ≡ spare) w (omega arith) (λ g. absurd (omega arith))
-        (λ j l n g. s.spare_rest j (omega arith) l) j l h;
+    few = put_each (λ j x. x.count ≤ 12) w more small s.few;
+    done = put_each (λ j x. ways_in x ≡ get_or (choices_of k) j spare) w more is s.done;
   }
 
-  pub lay_end : (n : ℕ) → length k ≤ q → q ≤ length k → choices_in (record { clauses = n; ways = ways }) ≡ choices_of k
+  pub lay_clause : (w : Ways) → q < 4 → q < length k → ways_in w ≡ ways_of (get_or k q []) → w.count ≤ 12 → Laying k (q + 1) (set ways q w)
+  lay_clause w more there is = lay_turn w more (is ∙ sym (choice_at k q there))
+
+  pub lay_spare : (w : Ways) → q < 4 → length k ≤ q → ways_in w ≡ spare → w.count ≤ 12 → Laying k (q + 1) (set ways q w)
+  lay_spare w more past is = lay_turn w more (is ∙ sym (choice_past k q past))
+
+  pub lay_end : (n : ℕ) → 4 ≤ q → length k ≤ 4 → choices_in (record { clauses = n; ways = ways }) ≡ choices_of k
   unfolding choices_in
-  lay_end n past within =
+  lay_end n past few_clauses =
       ext_get_or spare (map ways_in ways) (choices_of k) (length-map ways ways_in ∙ s.four ∙ sym (four_choices k few_clauses))
       (λ j l.
       let h : j < 4 = omega (arith, length-map ways ways_in, s.four) in
-      map_at ways_in ways j no_ways spare (omega (arith, s.four))
-      ∙ by_less j (length k) (λ a. s.done j (omega arith) ∙ sym (choice_at k j a)) (λ a. s.spare_rest j (omega arith) h ∙ sym (choice_past k j a)))
+      map_at ways_in ways j no_ways spare (omega (arith, s.four)) ∙ s.done j (omega arith))

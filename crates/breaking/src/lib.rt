@@ -19,7 +19,7 @@ use zone::Constraint;
 
 // The ways in which one clause is broken, the first `count` of a list: a row breaks it where it obeys one of these constraints. A
 // comparison fails in two ways at most.
-#[derive(Clone, Copy)]
+#[derive(Clone, Copy, Default)]
 pub struct Ways {
     pub count: usize,
     pub list: [Constraint; 2 * Job::COMPARISONS],
@@ -27,7 +27,7 @@ pub struct Ways {
 
 // How many clauses a condition has, and the ways of each. Past the last clause stands one that every row breaks, so that there are always
 // four.
-#[derive(Clone, Copy)]
+#[derive(Clone, Copy, Default)]
 pub struct Choices {
     pub clauses: usize,
     pub ways: [Ways; Job::CLAUSES],
@@ -82,29 +82,25 @@ fn put_ways(list: &mut [Constraint], c: &Clause) -> usize
     count
 }
 
-// The ways in which the clauses of a condition are broken.
-pub fn put_choices(k: &Condition) -> Choices
+// Puts the ways in which the clauses of a condition are broken in place of others.
+pub fn put_choices(k: &Condition, choices: &mut Choices)
     requires { Small k.now }
-    ensures ways { choices_in result ≡ choices_of (condition_of k.now) }
-    ensures clauses { result.clauses ≡ k.now.size }
-    ensures size { result.clauses ≡ length (condition_of k.now) }
-    ensures few { FewWays result }
+    ensures ways { choices_in choices.new ≡ choices_of (condition_of k.now) }
+    ensures clauses { choices.new.clauses ≡ k.now.size }
+    ensures size { choices.new.clauses ≡ length (condition_of k.now) }
+    ensures few { FewWays choices.new }
 {
-    let free = Ways {
-        count: 1,
-        list: [FREE; 2 * Job::COMPARISONS],
-    };
-    let mut choices = Choices {
-        clauses: k.size,
-        ways: [free; Job::CLAUSES],
-    };
     // as a slice, whose length is known
     let clauses: &[Clause] = &k.clauses;
-    for (q, c) in clauses[..k.size].iter().enumerate() {
+    choices.clauses = k.size;
+    for q in 0..Job::CLAUSES {
         let ways = &mut choices.ways[q];
-        ways.count = put_ways(&mut ways.list, c);
+        ways.count = if q < k.size {
+            put_ways(&mut ways.list, &clauses[q])
+        } else {
+            put_way(&mut ways.list, 0, FREE)
+        };
     }
-    choices
 }
 
 // ---- Looks ahead
