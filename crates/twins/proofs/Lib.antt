@@ -7,5 +7,4 @@ pub mod Twinned
 pub mod Separating
 pub mod Marking
 pub mod Differing
-pub mod Turns
 pub mod Pairing

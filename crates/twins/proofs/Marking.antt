@@ -8,7 +8,7 @@ use native.Mathlib.Omega.{arith}
 use native.Mathlib.Numerals.{add-one}
 use native.Mathlib.Nat.{zero-add}
 use lib.ListN.{length, get_or, set}
-use Rattle.base.proofs.Arrays.{Pass, filled_cong, filled_same, front_turn, pass_end, pass_ahead, filled_again, filled_in}
+use Rattle.base.proofs.Arrays.{Pass, filled_cong, filled_same, front_turn, pass_end, pass_ahead, filled_again, filled_in, filled_length}
 use Rattle.base.specs.Options.{is_some}
 use Rattle.zone.specs.Zone.{Zone, can_differ}
 use Rattle.twins.specs.Pairs.{if_differ}
@@ -19,6 +19,10 @@ use Rattle.twins.specs.Marks.{marked}
 -- a mark that there is, or what f says
 abbrev pub mark_of : (ℕ → Bool) → List Bool → ℕ → Bool
 mark_of f marks c = get_or marks c false || f c
+
+pub marked_length : (f : ℕ → Bool) (marks : List Bool) (w : ℕ) → length (marked w f marks) ≡ length marks
+unfolding marked
+marked_length f marks w = filled_length (mark_of f marks) 0 w marks
 
 pub marked_at : (f : ℕ → Bool) (marks : List Bool) (w c : ℕ) → w ≤ length marks → c < w → get_or (marked w f marks) c false ≡ mark_of f marks c
 unfolding marked

@@ -33,7 +33,7 @@ use Rattle.twins.specs.Marks.{marked}
 use Rattle.twins.specs.Uses.{Marks}
 use Rattle.twins.proofs.Marking.{mark_of, marked_cong, marked_marked, marked_nothing}
 use Rattle.twins.proofs.Differing.{own_same}
-use Rattle.twins.proofs.Turns.{turns_left, turns_start, turns_end, turn_without, turn_passed, turn_with}
+use Rattle.conditions.proofs.Turns.{turns_left, turns_start, turns_end, turn_without, turn_passed, turn_with}
 
 -- the marks, and those that the clauses of a list give; f c is what is looked for in the rows that meet a clause, for column c
 abbrev pub marked_by : model.Condition → Zone → ℕ → (ℕ → Zone → Option Zone) → List Bool → List Bool

@@ -1,11 +1,11 @@
 -- What is handed out for columns, an extract and a query that reading gives, made of the zone that was found. Assumes nothing.
 use mathlib.Core.Path.{◌≡◌, refl, sym, ap, ◌∙◌}
-use mathlib.Core.Bool.{Bool, true, false, not, cond, ◌&&◌}
-use mathlib.Core.List.{List}
+use mathlib.Core.Bool.{Bool, true, false, not, cond, ◌&&◌, ◌||◌}
+use mathlib.Core.List.{List, ◌++◌}
 use mathlib.Core.Option.{Option, none, some}
 use Prim.Native.Nat.{ℕ, ◌+◌, ◌*◌, ◌<◌, ◌≤◌}
 use native.Mathlib.Omega.{arith}
-use lib.ListN.{length, get_or, replicate, length-replicate}
+use lib.ListN.{length, get_or, replicate, length-replicate, get_or-append}
 use lib.Dec.{T}
 use borrow.Author.Tests.{le-leb, lt-leb}
 use Rattle.base.specs.Options.{is_some, or_else}
@@ -26,7 +26,7 @@ use Rattle.conditions.specs.Meeting.{Lies}
 use Rattle.conditions.proofs.Stands.{Stands}
 use Rattle.twins.specs.declared.TwinRows.{TwinRows}
 use Rattle.twins.specs.Marks.{marked}
-use Rattle.twins.proofs.Marking.{marked_at}
+use Rattle.twins.proofs.Marking.{marked_length, marked_at}
 use Rattle.databases.specs.declared.Pair.{Pair}
 use Rattle.databases.specs.Databases.{least_in, pair_record, shown_columns}
 use Rattle.databases.specs.Listing.{listed_by}
@@ -36,7 +36,7 @@ use Rattle.databases.proofs.Pairing.{least_size}
 use Rattle.databases.proofs.Pairs.{pair_none, pair_shows}
 use Rattle.databases.proofs.Listing.{listing_is}
 use Rattle.verdict.specs.Found.{both_bounds, found1, found2, found3, found4, found_kind, finding, unfixed_in}
-use Rattle.verdict.specs.Uses.{Given, both_rows}
+use Rattle.verdict.specs.Uses.{Given, Decides}
 use Rattle.verdict.specs.Verdict.{listing_record, HandsOut}
 use Rattle.verdict.proofs.Rows.{least_found, first_handed, second_handed}
 use Rattle.verdict.proofs.Limits.{taken, both_near, both_most}
@@ -82,20 +82,23 @@ module _ (j : model.Job) (w : T (well_formed j)) where
   found_shown = by_finding (tables_differ j) (found1 j) refl
 
 -- ---- it lies in an array with room for two rows as one
-module _ (k : Columns) (extract query : Expression) (g : Given k extract query) (size : Sized (problem k extract query)) {rows : TwinRows}
-    (are : rows ≡ both_rows k extract) (out : List ℕ) (room : (rows.columns + 1) * 33 ≤ length out)
+module _ {k : Columns} {extract query : Expression} {rows : TwinRows} (u : Decides k extract query rows) (size : Sized (problem k extract query))
+    (out : List ℕ) (room : (rows.columns + 1) * 33 ≤ length out)
     (lies : Lies (shown_columns k rows (found_kind (job_of k extract query)) + 1) (finding (job_of k extract query)) out) where
   abbrev j : model.Job
   j = job_of k extract query
+
+  abbrev g : Given k extract query
+  g = u.given
 
   abbrev shown : ℕ
   shown = shown_columns k rows (found_kind j)
 
   wide : rows.columns ≡ length (both_bounds j)
-  wide = columns_is k extract query g size rows are
+  wide = columns_is u size
 
   narrow : k.width ≡ length (columns j)
-  narrow = width_of k extract query g size rows are
+  narrow = width_of u size
 
   module _ (h : 0 < found_kind j) where
     s : Shown j g.formed (found_kind j) (finding j)
@@ -106,20 +109,20 @@ module _ (k : Columns) (extract query : Expression) (g : Given k extract query) 
 
     of_one : found_kind j ≤ 2 → (HasLeast k.width out) × (shown ≡ k.width)
     of_one l =
-        let (u, stands) = s.one l in
+        let (p, stands) = s.one l in
         let is : shown ≡ k.width = rw (le-leb (found_kind j) 2 l) in
         let few : length (columns j) ≤ 32 = omega (arith, (taken j g.formed).few_columns) in
         let zone : zone_in (length (columns j) + 1) out ≡ s.zone = ap (λ (m : ℕ). zone_in (m + 1) out) (sym (is ∙ narrow)) ∙ there in
-        let enough : (length (columns j) + 1) * 33 ≤ length out = omega (arith, narrow, width_below k extract query g size rows are) in
-        (λ row e. least_room (columns j) few u s.zone stands (taken j g.formed).range row (e ∙ narrow) out enough zone, is)
+        let enough : (length (columns j) + 1) * 33 ≤ length out = omega (arith, narrow, width_below u size) in
+        (λ row e. least_room (columns j) few p s.zone stands (taken j g.formed).range row (e ∙ narrow) out enough zone, is)
 
     of_two : 2 < found_kind j → (HasLeast rows.columns out) × (shown ≡ rows.columns)
     of_two l =
-        let (u, stands) = s.two l in
+        let (p, stands) = s.two l in
         let is : shown ≡ rows.columns = rw (lt-leb (found_kind j) 2 l) in
         let zone : zone_in (length (both_bounds j) + 1) out ≡ s.zone = ap (λ (m : ℕ). zone_in (m + 1) out) (sym (is ∙ wide)) ∙ there in
         let enough : (length (both_bounds j) + 1) * 33 ≤ length out = omega (arith, wide) in
-        (λ row e. least_room (both_bounds j) (both_most j g.formed) u s.zone stands (both_near j g.formed) row (e ∙ wide) out enough zone, is)
+        (λ row e. least_room (both_bounds j) (both_most j g.formed) p s.zone stands (both_near j g.formed) row (e ∙ wide) out enough zone, is)
 
     -- the row that is read is the least one of what was found
     row_shown : (length (least_in shown out) ≡ shown) × (least_in shown out ≡ least_found (finding j))
@@ -133,8 +136,8 @@ module _ (k : Columns) (extract query : Expression) (g : Given k extract query) 
 
   pairs_by : PairsBy k extract query rows (found_kind j) out
   pairs_by = record {
-    one = λ h l. pairs_one k extract query g size rows are (of_one h (omega arith)).0;
-    two = λ l. pairs_two k extract query g size rows are (of_two (omega arith) (omega arith)).0;
+    one = λ h l. pairs_one u size (of_one h (omega arith)).0;
+    two = λ l. pairs_two u size (of_two (omega arith) (omega arith)).0;
   }
 
   -- with no kind nothing is read of the row
@@ -145,7 +148,7 @@ module _ (k : Columns) (extract query : Expression) (g : Given k extract query) 
   hands_out : {p : Pair} → p ≡ pair_record k extract query rows.twin (found_kind j) (least_in shown out) → HandsOut k extract query p.first p.second
   unfolding first_handed second_handed
   hands_out is =
-      let twins = both_is k extract query g size rows are in
+      let twins = both_is u size in
       let row = least_in shown out in
       let shows = pair_shows k extract query g.laid g.formed (found_kind j) row (λ h. (row_shown h).0 ∙ ap (λ (t : TwinRows). shown_columns k t (found_kind j)) twins) in
       let (same, same') : (first_by j (found_kind j) row ≡ first_handed j) × (second_by j (found_kind j) row ≡ second_handed j) =
@@ -160,25 +163,30 @@ module _ (k : Columns) (extract query : Expression) (g : Given k extract query) 
       })
 
 -- ---- with the kind that the code has
-module _ (k : Columns) (extract query : Expression) (g : Given k extract query) (size : Sized (problem k extract query)) {rows : TwinRows}
-    (are : rows ≡ both_rows k extract) (out : List ℕ) (room : (rows.columns + 1) * 33 ≤ length out) (kind : ℕ)
+module _ {k : Columns} {extract query : Expression} {rows : TwinRows} (u : Decides k extract query rows) (size : Sized (problem k extract query))
+    (out : List ℕ) (room : (rows.columns + 1) * 33 ≤ length out) (kind : ℕ)
     (kinds : kind ≡ found_kind (job_of k extract query)) (lies : Lies (shown_columns k rows kind + 1) (finding (job_of k extract query)) out) where
   pub pairs_asked : PairsBy k extract query rows kind out
-  pairs_asked = rw kinds (pairs_by k extract query g size are out room (rw kinds at lies))
+  pairs_asked = rw kinds (pairs_by u size out room (rw kinds at lies))
 
   pub pair_handed_out : {p : Pair} → p ≡ pair_record k extract query rows.twin kind (least_in (shown_columns k rows kind) out)
       → HandsOut k extract query p.first p.second
-  pair_handed_out is = hands_out k extract query g size are out room (rw kinds at lies) (rw kinds at is)
+  pair_handed_out is = hands_out u size out room (rw kinds at lies) (rw kinds at is)
 
--- ---- the listing, by marks on the columns that aren't fixed
-pub listing_told : (k : Columns) (extract query : Expression) → Given k extract query → k.width ≤ 16 → k.width ≡ length (columns (job_of k extract query))
-    → {marks : List Bool} → marks ≡ marked k.width (unfixed_in (job_of k extract query)) (replicate 16 false)
-    → listed_by k extract marks ≡ listing_record k extract query
+-- ---- the listing, by marks on the columns that aren't fixed: in front of those of the columns that aren't there
+pub listing_told : (k : Columns) (extract query : Expression) → Given k extract query → k.width ≡ length (columns (job_of k extract query))
+    → {none marks : List Bool} (rest : List Bool) → none ≡ replicate k.width false
+    → marks ≡ marked (length none) (unfixed_in (job_of k extract query)) none
+    → listed_by k extract (marks ++ rest) ≡ listing_record k extract query
 unfolding listing_record
-listing_told k extract query g few width {marks} is = listing_is k extract query g.laid marks (λ c h.
-    ap (λ (m : List Bool). get_or m c false) is
-    ∙ marked_at (unfixed_in (job_of k extract query)) (replicate 16 false) k.width c (omega (arith, length-replicate 16 false)) h
-    ∙ rw (replicate_at 16 c false) (twice (unfixed_in (job_of k extract query) c))
+listing_told k extract query g width {none} {marks} rest clear is = listing_is k extract query g.laid (marks ++ rest) (λ c h.
+    let wide : length none ≡ k.width = ap length clear ∙ length-replicate k.width false in
+    let long : length marks ≡ k.width = ap length is ∙ marked_length (unfixed_in (job_of k extract query)) none (length none) ∙ wide in
+    get_or-append marks rest false c (rw long h)
+    ∙ ap (λ (m : List Bool). get_or m c false) is
+    ∙ marked_at (unfixed_in (job_of k extract query)) none (length none) c (omega arith) (rw wide h)
+    ∙ ap (λ (m : List Bool). get_or m c false || unfixed_in (job_of k extract query) c) clear
+    ∙ rw (replicate_at k.width c false) (twice (unfixed_in (job_of k extract query) c))
     ∙ sym (ap not (fixed_found (job_of k extract query) g.formed c (omega arith))))
   where
     twice : (b : Bool) → b ≡ not (not b)

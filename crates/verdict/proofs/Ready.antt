@@ -1,18 +1,15 @@
 -- What the searches ask of columns, an extract and a query that reading gives, and what they find there. Assumes nothing.
 use mathlib.Core.Path.{◌≡◌, refl, sym, ap, subst, ◌∙◌}
 use mathlib.Core.Bool.{Bool, ◌||◌}
-use mathlib.Core.List.{map-append, List, [], ◌∷◌, ◌++◌, map, append_assoc}
+use mathlib.Core.List.{List, [], append_assoc}
 use mathlib.Core.Option.{Option, none, some}
-use Prim.Native.Nat.{ℕ, ◌+◌, ◌-◌, ◌*◌, ◌<◌, ◌≤◌}
+use Prim.Native.Nat.{ℕ, ◌+◌, ◌*◌, ◌<◌, ◌≤◌}
 use native.Mathlib.Omega.{arith}
-use lib.ListN.{length, get_or, take, replicate, length-map, get_or-map}
-use lib.Seq.{length-take-le}
-use lib.IntN.{ℤ, pos}
+use lib.ListN.{length, take, get_or-map}
+use lib.Seq.{take-append_seam}
 use lib.Dec.{T}
 use Rattle.base.specs.Lists.{◌∈◌, all_of, at}
 use Rattle.base.specs.Options.{and_then, is_some}
-use Rattle.base.specs.Arrays.{padded}
-use Rattle.base.proofs.Arrays.{padded_length}
 use Rattle.base.proofs.Options.{first_cong}
 use Rattle.base.proofs.Places.{element}
 use Rattle.model.specs.Tables as model
@@ -35,21 +32,21 @@ use Rattle.zone.specs.Zone.{Zone}
 use Rattle.zone.specs.Array.{zone_in, laid}
 use Rattle.zone.specs.Uses.{InArray}
 use Rattle.solver.specs.Solver.{bounds_fit, box_of, imposed_all}
-use Rattle.solver.specs.Lists.{bounds_of}
+use Rattle.solver.specs.Uses.{BoundsRoom}
 use Rattle.solver.proofs.Formed.{outputs_declared}
 use Rattle.conditions.specs.Meeting.{both, met, pairs_of, always}
 use Rattle.conditions.specs.Uses.{condition_fits, Small, ConditionFits, Searches}
 use Rattle.conditions.proofs.Stands.{Stands}
 use Rattle.twins.specs.declared.TwinRows.{TwinRows}
 use Rattle.twins.specs.Pairs.{apart, some_apart, if_differ}
-use Rattle.twins.specs.Twins.{hidden, twin_bounds, renamed}
+use Rattle.twins.specs.Twins.{twin_bounds, renamed}
 use Rattle.twins.specs.Records.{twins_of, twins_record, renamed_clause, renamed_condition}
-use Rattle.twins.specs.Uses.{FewColumns, Paired, Partners, Renames, Marks}
+use Rattle.twins.specs.Uses.{Paired, Partners, Renames, Marks}
 use Rattle.twins.proofs.Twinned.{record_columns, record_bounds, twin_at, twin_names, twins_stand}
 use Rattle.twins.proofs.Names.{compares, twins_renamed}
 use Rattle.databases.specs.Uses.{UsesFew, TablesFew, HasLeast, PairsOne, PairsTwo, ListsColumns}
 use Rattle.verdict.specs.Found.{without, twin, both_bounds, keeps_one, keeps_other, wants_one, wants_other, box, box2, found1, found2, found3, found4, unfixed_in}
-use Rattle.verdict.specs.Uses.{LaysRows, Given, both_rows}
+use Rattle.verdict.specs.Uses.{Given, Decides, both_rows}
 use Rattle.verdict.proofs.Limits.{taken, both_fit, both_most, keeps_one_lem, keeps_other_lem, wants_one_lem, wants_other_lem, first_most, column_below, twin_below}
 use Rattle.verdict.proofs.Decided.{every, one, two}
 use Rattle.verdict.proofs.Rooms.{stands_in_array, stands_zone}
@@ -76,24 +73,9 @@ renamed_small t k s = record {
 }
 
 -- ---- the bounds of the first row
-listed_first : (bs : List Bounds) (xs ys : List ℤ)
-    → bounds_of (take (length bs) (map (λ b. b.lo) bs ++ xs)) (take (length bs) (map (λ b. b.hi) bs ++ ys)) ≡ bs
-listed_first [] xs ys = refl
-listed_first (b ∷ bs) xs ys = rw (listed_first bs xs ys)
-
-padded_front : (f : Bounds → ℤ) (n : ℕ) (bs hs : List Bounds) → (xs : List ℤ) × (padded n (pos 0) (map f (bs ++ hs)) ≡ map f bs ++ xs)
-padded_front f n bs hs =
-    let pad = replicate (n - length (map f (bs ++ hs))) (pos 0) in
-    (map f hs ++ pad, ap (λ (l : List ℤ). l ++ pad) (map-append f bs hs) ∙ append_assoc (map f bs) (map f hs) pad)
-
-first_bounds : (bs : List Bounds) (stored : List ℕ)
-    → bounds_of (take (length bs) (twins_record bs stored).lo) (take (length bs) (twins_record bs stored).hi) ≡ bs
+first_bounds : (bs : List Bounds) (stored : List ℕ) → take (length bs) (twins_record bs stored).bounds ≡ bs
 unfolding twins_record twins_of twin_bounds
-first_bounds bs stored =
-    let hs = map (λ c. get_or bs c (record { lo = pos 0; hi = pos 0 })) (hidden (length bs) stored) in
-    let (xs, e) = padded_front (λ b. b.lo) 32 bs hs in
-    let (ys, f) = padded_front (λ b. b.hi) 32 bs hs in
-    rw (e, f) (listed_first bs xs ys)
+first_bounds bs stored = rw append_assoc (take-append_seam bs _)
 
 -- ---- the arrays of the records have their lengths
 pub sizes : (k : Columns) (extract query : Expression) (us vs ws : List Val) → Is columns_of.the_row k us → Is expression.the_row extract vs
@@ -105,10 +87,15 @@ sizes k extract query us vs ws a b c = record {
 }
 
 -- ---- columns, an extract and a query that reading gives, with two rows as one
-module _ (k : Columns) (extract query : Expression) (g : Given k extract query) (size : Sized (problem k extract query))
-    (rows : TwinRows) (are : rows ≡ both_rows k extract) where
+module _ {k : Columns} {extract query : Expression} {rows : TwinRows} (u : Decides k extract query rows) (size : Sized (problem k extract query)) where
   abbrev j : model.Job
   j = job_of k extract query
+
+  abbrev g : Given k extract query
+  g = u.given
+
+  abbrev are : rows ≡ both_rows k extract
+  are = u.both
 
   abbrev r : Job
   r = problem k extract query
@@ -133,54 +120,41 @@ module _ (k : Columns) (extract query : Expression) (g : Given k extract query) 
   width_below = omega (arith, width_of, columns_is, first_most j g.formed)
 
   -- ---- the boxes
-  lows : length rows.lo ≡ 32
-  unfolding twins_record twins_of
-  lows = rw both_is (padded_length 32 (pos 0) (map (λ b. b.lo) (both_bounds j))
-      (omega (arith, length-map (both_bounds j) (λ (b : Bounds). b.lo), both_most j g.formed)))
-
-  highs : length rows.hi ≡ 32
-  unfolding twins_record twins_of
-  highs = rw both_is (padded_length 32 (pos 0) (map (λ b. b.hi) (both_bounds j))
-      (omega (arith, length-map (both_bounds j) (λ (b : Bounds). b.hi), both_most j g.formed)))
-
-  one_listed : bounds_of (take k.width rows.lo) (take k.width rows.hi) ≡ columns j
+  one_listed : take k.width rows.bounds ≡ columns j
   one_listed =
-      ap (λ (n : ℕ). bounds_of (take n rows.lo) (take n rows.hi)) width_of
-      ∙ ap (λ (t : TwinRows). bounds_of (take (length (columns j)) t.lo) (take (length (columns j)) t.hi)) both_is
+      ap (λ (n : ℕ). take n rows.bounds) width_of
+      ∙ ap (λ (t : TwinRows). take (length (columns j)) t.bounds) both_is
       ∙ first_bounds (columns j) j.extract.outputs
 
-  two_listed : bounds_of (take rows.columns rows.lo) (take rows.columns rows.hi) ≡ both_bounds j
+  two_listed : take rows.columns rows.bounds ≡ both_bounds j
   two_listed = rw both_is (record_bounds (columns j) j.extract.outputs)
 
   -- the bounds of n columns are bs, and z is their box
-  module _ (n : ℕ) (few : n ≤ 32) (bs : List Bounds) (is : bounds_of (take n rows.lo) (take n rows.hi) ≡ bs) (fit : T (all_of bounds_fit bs))
+  module _ (n : ℕ) (few : n ≤ 32) (bs : List Bounds) (is : take n rows.bounds ≡ bs) (fit : T (all_of bounds_fit bs))
       (same : n ≡ length bs) (z : Zone) (box_is : box_of bs ≡ z) (stands : Stands bs every z) (d : List ℕ) (room : (n + 1) * 33 ≤ length d) where
-    lays : LaysRows rows n d
-    lays =
-        let low : length (take n rows.lo) ≡ n = length-take-le n rows.lo (omega (arith, lows)) in
-        let high : length (take n rows.hi) ≡ n = length-take-le n rows.hi (omega (arith, highs)) in
-        record { few = few; room = record { room = omega (arith, low); same = high ∙ sym low; small = omega (arith, low); fit = rw is fit } }
+    lays : BoundsRoom d (take n rows.bounds)
+    lays = rw is (record { room = omega (arith, same); small = omega (arith, same); fit = fit })
 
-    boxed : {b : List ℕ} → b ≡ laid d (box_of (bounds_of (take n rows.lo) (take n rows.hi))) → (zone_in (n + 1) b ≡ z) × InArray (n + 1) b
+    boxed : {b : List ℕ} → b ≡ laid d (box_of (take n rows.bounds)) → (zone_in (n + 1) b ≡ z) × InArray (n + 1) b
     boxed left =
-        let at-z : laid d (box_of (bounds_of (take n rows.lo) (take n rows.hi))) ≡ laid d z = ap (λ (cs : List Bounds). laid d (box_of cs)) is ∙ ap (laid d) box_is in
+        let at-z : laid d (box_of (take n rows.bounds)) ≡ laid d z = ap (λ (cs : List Bounds). laid d (box_of cs)) is ∙ ap (laid d) box_is in
         let small : length bs ≤ 32 = omega (arith, same) in
         let enough : (length bs + 1) * 33 ≤ length d = omega (arith, same) in
         rw (left ∙ at-z, same) (stands_zone bs small every z stands d enough, stands_in_array bs small every z stands d enough)
 
   module _ (d : List ℕ) (room : (k.width + 1) * 33 ≤ length d) where
-    pub one_asks : LaysRows rows k.width d
+    pub one_asks : BoundsRoom d (take k.width rows.bounds)
     one_asks = lays k.width (omega (arith, width_most)) (columns j) one_listed (taken j g.formed).bounds width_of (box j) refl (one j g.formed) d room
 
-    pub one_box : {b : List ℕ} → b ≡ laid d (box_of (bounds_of (take k.width rows.lo) (take k.width rows.hi)))
+    pub one_box : {b : List ℕ} → b ≡ laid d (box_of (take k.width rows.bounds))
         → (zone_in (k.width + 1) b ≡ box (job_of k extract query)) × InArray (k.width + 1) b
     one_box = boxed k.width (omega (arith, width_most)) (columns j) one_listed (taken j g.formed).bounds width_of (box j) refl (one j g.formed) d room
 
   module _ (d : List ℕ) (room : (rows.columns + 1) * 33 ≤ length d) where
-    pub two_asks : LaysRows rows rows.columns d
+    pub two_asks : BoundsRoom d (take rows.columns rows.bounds)
     two_asks = lays rows.columns columns_most (both_bounds j) two_listed (both_fit j g.formed) columns_is (box2 j) refl (two j g.formed) d room
 
-    pub two_box : {b : List ℕ} → b ≡ laid d (box_of (bounds_of (take rows.columns rows.lo) (take rows.columns rows.hi)))
+    pub two_box : {b : List ℕ} → b ≡ laid d (box_of (take rows.columns rows.bounds))
         → (zone_in (rows.columns + 1) b ≡ box2 (job_of k extract query)) × InArray (rows.columns + 1) b
     two_box = boxed rows.columns columns_most (both_bounds j) two_listed (both_fit j g.formed) columns_is (box2 j) refl (two j g.formed) d room
 
@@ -293,9 +267,9 @@ module _ (k : Columns) (extract query : Expression) (g : Given k extract query) 
     }
 
     -- ---- the columns that aren't fixed
-    pub marks_two : {b y : List ℕ} {marks : List Bool} → InArray (rows.columns + 1) b → (rows.columns + 1) * 33 ≤ length y → length marks ≡ 16
-        → Marks rows.columns b extract.condition keeps k.width rows.twin y marks
-    marks_two inside room sixteen = record {
+    pub marks_two : {b y : List ℕ} → InArray (rows.columns + 1) b → (rows.columns + 1) * 33 ≤ length y → {w : ℕ} → w ≡ k.width
+        → Marks rows.columns b extract.condition keeps w rows.twin y
+    marks_two inside room wide = rw wide record {
       searches = record {
         in_array = inside;
         first = fits (length (both_bounds j)) columns_is (keeps_one j) keeps_is (keeps_one_lem j g.formed) extract_small;
@@ -303,7 +277,6 @@ module _ (k : Columns) (extract query : Expression) (g : Given k extract query) 
       };
       paired = paired;
       room = room;
-      sixteen = sixteen;
     }
 
     pub finds_unfixed : (z : Zone) → z ≡ box2 (job_of k extract query) → (c : ℕ) → c < k.width
@@ -341,9 +314,6 @@ module _ (k : Columns) (extract query : Expression) (g : Given k extract query) 
   finds_one z is = rw (is, wants_is, keeps_is)
 
   -- ---- what the databases and the listing ask
-  pub few_columns : FewColumns k extract.width
-  few_columns = record { width = width_most; few = outputs_fit j.extract extract (extract_is r g.laid) size.extract }
-
   pub few_used : UsesFew extract query
   few_used = record {
     first = used_fit j.extract extract (extract_is r g.laid) size.extract;
@@ -354,7 +324,7 @@ module _ (k : Columns) (extract query : Expression) (g : Given k extract query) 
   few_tables = record { width = width_most; tables = λ c. tables_below r g.laid c no_column }
 
   pub lists_columns : ListsColumns k extract
-  lists_columns = record { width = width_most; tables = few_used.first; stored = few_columns.few }
+  lists_columns = record { width = width_most; tables = few_used.first; stored = outputs_fit j.extract extract (extract_is r g.laid) size.extract }
 
   pub pairs_one : {d : List ℕ} → HasLeast k.width d → PairsOne k extract query d
   pairs_one least = record { makes = record { few = few_tables; extract_used = few_used.first; query_used = few_used.second }; least = least }

@@ -1,5 +1,5 @@
 -- The search for rows that meet two conditions and not a third: what it asks, and what it finds by the ways that were laid. Assumes nothing.
-use mathlib.Core.Path.{◌≡◌, ◌∙◌}
+use mathlib.Core.Path.{◌≡◌}
 use mathlib.Core.Bool.{Bool}
 use mathlib.Core.List.{List, []}
 use mathlib.Core.Option.{Option}
@@ -12,11 +12,11 @@ use Rattle.job.specs.Meaning.{condition_of}
 use Rattle.zone.specs.Zone.{Zone}
 use Rattle.conditions.specs.Meeting.{always_record}
 use Rattle.conditions.specs.Uses.{ConditionFits, Searches}
-use Rattle.conditions.proofs.Clauses.{few, condition_length}
 use Rattle.conditions.proofs.Meeting.{Ends}
 use Rattle.breaking.specs.declared.Choices.{Choices}
 use Rattle.breaking.specs.Breaking.{choices_of}
 use Rattle.breaking.specs.Places.{choices_in}
+use Rattle.breaking.specs.Uses.{FewWays}
 use Rattle.breaking.proofs.Sizes.{small_from}
 use Rattle.breaking.proofs.Fitting.{choices_fit}
 use Rattle.search.specs.Search.{outside}
@@ -35,16 +35,15 @@ always_fits n = record { small = record { clauses = omega arith; comparisons = e
     each (suc (suc (suc zero))) h = omega arith
     each (suc (suc (suc (suc q)))) h = absurd (omega arith)
 
--- c and ways are the choices that were laid for the condition k
-module _ {n : ℕ} {k : Condition} (fits : ConditionFits n k) (four : length k.clauses ≡ 4) (c : Choices) (ways : List ℕ)
-    (laid : choices_in c ways ≡ choices_of (condition_of k)) (clauses : c.clauses ≡ k.size) where
-  pub outside_asks : {z : List ℕ} {a b : Condition} → Searches n z a b → {old x y v w out : List ℕ} → Lent (n + 1) old x y v w out
-      → length ways ≡ length old → (out' : List ℕ) → length out' ≡ length out → SearchesOutside n z a b c ways x y v w out'
-  outside_asks s lent same out' kept = record {
+-- c are the choices that were laid for the condition k
+module _ {n : ℕ} {k : Condition} (fits : ConditionFits n k) (c : Choices) (laid : choices_in c ≡ choices_of (condition_of k))
+    (size : c.clauses ≡ length (condition_of k)) where
+  pub outside_asks : FewWays c → {z : List ℕ} {a b : Condition} → Searches n z a b → {x y v w out : List ℕ} → Lent (n + 1) x y v w out
+      → (out' : List ℕ) → length out' ≡ length out → SearchesOutside n z a b c x y v w out'
+  outside_asks short s lent out' kept = record {
     searches = s;
-    size = same ∙ lent.size;
-    choices = choices_fit n (condition_of k) (small_from k fits.small).0 (small_from k fits.small).1 fits.fit c ways (same ∙ lent.size) laid;
-    few = omega (arith, clauses, fits.small.clauses);
+    choices = choices_fit n (condition_of k) (small_from k fits.small).0 fits.fit c short laid;
+    few = omega (arith, size, (small_from k fits.small).0);
     pair = lent.pair;
     room = record {
       first = lent.room.first;
@@ -54,8 +53,8 @@ module _ {n : ℕ} {k : Condition} (fits : ConditionFits n k) (four : length k.c
     };
   }
 
-  pub outside_is : (z : Zone) (a b : model.Condition) → outside z a b c.clauses (choices_in c ways) ≡ without z a b (condition_of k)
-  outside_is z a b = rw (laid, clauses, condition_length k (few fits four))
+  pub outside_is : (z : Zone) (a b : model.Condition) → outside z a b c.clauses (choices_in c) ≡ without z a b (condition_of k)
+  outside_is z a b = rw (laid, size)
 
 -- what is found, under another name
 pub ends_as : (m : ℕ) {o p : Option Zone} {r : Bool} (e : List ℕ) → o ≡ p → Ends m o r e → Ends m p r e

@@ -6,11 +6,18 @@ use mathlib.Core.Option.{Option, none, some}
 use Prim.Native.Nat.{ℕ, ◌+◌, ◌*◌, ◌<◌, ◌≤◌}
 use native.Mathlib.Omega.{arith}
 use lib.ListN.{length, take}
-use borrow.Author.Tests.{le-leb, lt-leb}
+use lib.Dec.{eqb, eqb→eq}
+use denote.Enum.Bare.{sameb}
+use borrow.Author.Tests.{le-leb, lt-leb, eq-eqb}
+use Rattle.base.proofs.Tests.{is_T}
 use Rattle.base.specs.Lists.{at}
 use Rattle.base.specs.Options.{is_some, or_else}
 use Rattle.model.specs.Tables as model
 use Rattle.model.specs.Verdict.{tables_differ, first_kind}
+use Rattle.model.specs.declared.Kind.{Kind}
+use Rattle.model.specs.declared.Kind.TheVariants.{Computable, TablesDiffer, RowNotKept, ConditionHidden, OutputHidden}
+use Rattle.model.specs.Answers.{number_of_kind}
+use Rattle.model.specs.contracts.Kind.{the_type}
 use Rattle.job.specs.declared.Columns.{Columns}
 use Rattle.job.specs.declared.Condition.{Condition}
 use Rattle.job.specs.declared.Expression.{Expression}
@@ -25,16 +32,15 @@ use Rattle.twins.specs.Pairs.{some_apart}
 use Rattle.twins.specs.Records.{renamed_condition}
 use Rattle.databases.specs.Databases.{shown_columns}
 use Rattle.verdict.specs.Found.{box, box2, found1, found2, found3, found4, found_kind, finding, one_kind, one_found, two_kind, two_found}
-use Rattle.verdict.specs.Uses.{Given, Lent, both_rows}
+use Rattle.verdict.specs.Uses.{Lent, Decides}
 use Rattle.verdict.proofs.Finding.{finds_first, finds_second}
 use Rattle.verdict.proofs.Ready.{finds_met, finds_one, finds_two}
 
 -- ---- the arrays, with room for m nodes and the length that they had
-pub lent : (n m : ℕ) → n ≤ m → (x : List ℕ) {y v w out : List ℕ} → (m + 1) * 33 ≤ length x → Room (m + 1) y v w out → {ways x' y' v' w' out' : List ℕ}
-    → length ways ≡ 144 → length x' ≡ length x → length y' ≡ length y → length v' ≡ length v → length w' ≡ length w → length out' ≡ length out
-    → Lent (n + 1) ways x' y' v' w' out'
-lent n m few x pair room size ex ey ev ew eo = record {
-  size = size;
+pub lent : (n m : ℕ) → n ≤ m → (x : List ℕ) {y v w out : List ℕ} → (m + 1) * 33 ≤ length x → Room (m + 1) y v w out → {x' y' v' w' out' : List ℕ}
+    → length x' ≡ length x → length y' ≡ length y → length v' ≡ length v → length w' ≡ length w → length out' ≡ length out
+    → Lent (n + 1) x' y' v' w' out'
+lent n m few x pair room ex ey ev ew eo = record {
   pair = omega (arith, ex);
   room = record {
     first = omega (arith, ey, room.first);
@@ -43,6 +49,21 @@ lent n m few x pair room size ex ey ev ew eo = record {
     found = omega (arith, eo, room.found);
   };
 }
+
+-- ---- whether a kind is Computable, by its number
+no_kind : (k : Kind) {b : Bool} → b ≡ sameb the_type k Computable → b ≡ eqb (number_of_kind k) 0
+no_kind Computable e = e
+no_kind TablesDiffer e = e
+no_kind RowNotKept e = e
+no_kind ConditionHidden e = e
+no_kind OutputHidden e = e
+
+module _ (k : Kind) {b : Bool} (told : b ≡ sameb the_type k Computable) where
+  pub none_found : b ≡ true → number_of_kind k ≡ 0
+  none_found h = eqb→eq (number_of_kind k) 0 (is_T (sym (no_kind k told) ∙ h))
+
+  pub some_found : b ≡ false → ¬ (number_of_kind k ≡ 0)
+  some_found h z = false≢true (sym h ∙ no_kind k told ∙ eq-eqb (number_of_kind k) 0 z)
 
 -- ---- which kinds a search shows
 one_most : (a b : Bool) → first_kind a b false false ≤ 2
@@ -55,8 +76,7 @@ two_least (some x) b y e = omega arith
 two_least none (some x) y e = omega arith
 two_least none none y e = absurd (false≢true (ap is_some e))
 
-module _ (k : Columns) (extract query : Expression) (g : Given k extract query) (size : Sized (problem k extract query)) (rows : TwinRows)
-    (are : rows ≡ both_rows k extract) where
+module _ {k : Columns} {extract query : Expression} {rows : TwinRows} (u : Decides k extract query rows) (size : Sized (problem k extract query)) where
   abbrev j : model.Job
   j = job_of k extract query
 
@@ -75,7 +95,7 @@ module _ (k : Columns) (extract query : Expression) (g : Given k extract query) 
     one_is : (kind ≡ first_kind (tables_differ j && is_some (found1 j)) (is_some (found2 j)) false false)
         × (found ≡ or_else (cond (tables_differ j) (found1 j) none) (found2 j))
     unfolding one_kind one_found
-    one_is = rw (tables, finds_met k extract query g size rows are z is, finds_one k extract query g size rows are z is) (refl, refl)
+    one_is = rw (tables, finds_met u size z is, finds_one u size z is) (refl, refl)
 
     pub told_first : {r : ℕ} (e : List ℕ) → r ≡ one_kind z differ (condition_of extract.condition) (condition_of query.condition) → ¬ (r ≡ 0)
         → Lies (k.width + 1) (one_found z differ (condition_of extract.condition) (condition_of query.condition)) e → Told r e
@@ -99,7 +119,7 @@ module _ (k : Columns) (extract query : Expression) (g : Given k extract query) 
           ≡ first_kind false false (is_some (found3 j)) (is_some (found4 j)))
           × (two_found z2 (condition_of keeps) (condition_of query.condition) (condition_of wants) apart ≡ or_else (found3 j) (found4 j))
       unfolding two_kind two_found
-      two_is = let (a, b) = finds_two k extract query g size rows are kept wanted z2 is2 in rw (a, b) (refl, refl)
+      two_is = let (a, b) = finds_two u size kept wanted z2 is2 in rw (a, b) (refl, refl)
 
       pub told_second : {r : ℕ} (e : List ℕ)
           → r ≡ two_kind z2 (condition_of keeps) (condition_of query.condition) (condition_of wants)

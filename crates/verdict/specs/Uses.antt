@@ -5,35 +5,28 @@ use Rattle.job.specs.declared.Columns.{Columns}
 use Rattle.job.specs.declared.Condition.{Condition}
 use Rattle.job.specs.declared.Expression.{Expression}
 use Rattle.job.specs.Meaning.{bounds_of, job_of, record_of, problem}
-use Rattle.solver.specs.Uses.{BoundsRoom}
 use Rattle.conditions.specs.Uses.{ConditionFits, Searches}
 use Rattle.search.specs.Uses.{Room}
 use Rattle.twins.specs.declared.TwinRows.{TwinRows}
 use Rattle.twins.specs.Records.{twins_record}
 use Rattle.twins.specs.Uses.{Partners}
 
--- bounds of n columns, and room for their zone
-pub record LaysRows (rows : TwinRows) (n : ℕ) (d : List ℕ) : Type 0 where
-  pub few : n ≤ 32
-  pub room : BoundsRoom d (take n rows.lo) (take n rows.hi)
-
 -- ---- Arrays to search in
 
--- room for ways, and for zones of n nodes
-pub record Lent (n : ℕ) (ways x y v w out : List ℕ) : Type 0 where
-  pub size : length ways ≡ 144
+-- room for zones of n nodes
+pub record Lent (n : ℕ) (x y v w out : List ℕ) : Type 0 where
   pub pair : n * 33 ≤ length x
   pub room : Room n y v w out
 
-pub record FindsOne (n : ℕ) (z : List ℕ) (keeps wants : Condition) (ways x y v w out : List ℕ) : Type 0 where
+pub record FindsOne (n : ℕ) (z : List ℕ) (keeps wants : Condition) (x y v w out : List ℕ) : Type 0 where
   pub searches : Searches n z keeps wants
-  pub lent : Lent (n + 1) ways x y v w out
+  pub lent : Lent (n + 1) x y v w out
 
-pub record FindsTwo (n : ℕ) (z : List ℕ) (keeps wants others : Condition) (cs twin ways x y v w out : List ℕ) : Type 0 where
-  pub searches : Searches n z keeps wants
-  pub third : ConditionFits n others
-  pub partners : Partners n cs twin
-  pub lent : Lent (n + 1) ways x y v w out
+pub record FindsTwo (rows : TwinRows) (z : List ℕ) (keeps wants others : Condition) (cs x y v w out : List ℕ) : Type 0 where
+  pub searches : Searches rows.columns z keeps wants
+  pub third : ConditionFits rows.columns others
+  pub partners : Partners rows.columns cs rows.twin
+  pub lent : Lent (rows.columns + 1) x y v w out
 
 -- ---- Deciding
 
@@ -49,6 +42,12 @@ both_rows k extract = twins_record (map bounds_of (take k.width k.columns)) (tak
 pub record Decides (k : Columns) (extract query : Expression) (rows : TwinRows) : Type 0 where
   pub given : Given k extract query
   pub both : rows ≡ both_rows k extract
+
+-- with room for the zone of both rows in an array of n numbers; none needs more than 1089
+pub record DecidesSized (k : Columns) (extract query : Expression) (rows : TwinRows) (n : ℕ) : Type 0 where
+  pub decides : Decides k extract query rows
+  pub room : (rows.columns + 1) * 33 ≤ n
+  pub most : n ≤ 1089
 
 -- with room for the zone of both rows, and for others
 pub record DecidesIn (k : Columns) (extract query : Expression) (rows : TwinRows) (b x y v w out : List ℕ) : Type 0 where

@@ -1,12 +1,14 @@
 -- What deciding gives for columns, an extract and a query that reading gives (document 01, "The verdict").
-use Rattle.std.specs.Prelude.{◌≡◌, List, ℕ}
+use Rattle.std.specs.Prelude.{◌≡◌, List, map, ℕ}
 use Rattle.base.specs.Lists.{tabulate}
 use Rattle.base.specs.Arrays.{padded}
 use Rattle.model.specs.Verdict.{kind_of, listing_of, HandedOut}
+use Rattle.model.specs.Answers.{number_of_kind, number_of_held}
 use Rattle.job.specs.declared.Columns.{Columns}
 use Rattle.job.specs.declared.Expression.{Expression}
 use Rattle.job.specs.Meaning.{job_of}
 use Rattle.databases.specs.declared.Database.{Database}
+use Rattle.verdict.specs.declared.Verdict.{Verdict}
 use Rattle.databases.specs.Databases.{no_database, database_of, TidyDatabase}
 
 -- one number for each declared column, zeros behind
@@ -20,3 +22,9 @@ pub record HandsOut (k : Columns) (extract query : Expression) (d f : Database) 
   pub handed : HandedOut (job_of k extract query) (database_of (job_of k extract query) d) (database_of (job_of k extract query) f)
   pub first_tidy : TidyDatabase k d
   pub second_tidy : TidyDatabase k f
+
+-- what is promised of a verdict
+pub record IsVerdict (k : Columns) (extract query : Expression) (v : Verdict) : Type 0 where
+  pub kind : number_of_kind v.kind ≡ kind_of (job_of k extract query)
+  pub listing : map number_of_held v.listing ≡ listing_record k extract query
+  pub databases : HandsOut k extract query v.first v.second

@@ -1,15 +1,29 @@
 -- `verdict::decide` meets its contract. Assumes nothing.
-use borrow.Author.Rules.{rules}
+use native.Mathlib.Omega.{arith}
 use mathlib.Core.Path.{refl}
-use Rattle.verdict.proofs.Ready.{sizes, few_columns}
+use Rattle.verdict.specs.Uses.{Decides}
+use Rattle.verdict.proofs.Ready.{sizes, width_most, columns_most, lists_columns}
 use Rattle.verdict.proofs.decide.Goals as goal
 
-pub twins_of-rows-requires : goal.twins_of-rows-requires
-twins_of-rows-requires c = few_columns c.args.k c.args.extract c.args.query c.requires (sizes _ _ _ _ _ _ c.well_formed.0 c.well_formed.1.0
-    c.well_formed.1.1.0) _ refl
+pub shared_ref_as_front-of : goal.shared_ref_as_front-of
+shared_ref_as_front-of c =
+    let size = sizes _ _ _ _ _ _ c.well_formed.0 c.well_formed.1.0 c.well_formed.1.1.0 in
+    let few = (lists_columns (record { given = c.requires; both = refl }) size).stored in
+    omega (arith, few, size.extract.outputs)
 
-pub decide_small-requires : goal.decide_small-requires
-decide_small-requires c = (record { given = c.requires; both = c.twins_of-rows.ensures }, search rules)
+pub of-rows-requires : goal.of-rows-requires
+of-rows-requires c =
+    width_most (record { given = c.requires; both = refl }) (sizes _ _ _ _ _ _ c.well_formed.0 c.well_formed.1.0 c.well_formed.1.1.0)
 
-pub decide_large-requires : goal.decide_large-requires
-decide_large-requires c = record { given = c.requires; both = c.twins_of-rows.ensures }
+pub decide_sized-requires : goal.decide_sized-requires
+decide_sized-requires c = record {
+  decides = record { given = c.requires; both = c.of-rows.ensures };
+  room = omega arith;
+  most = omega arith;
+}
+
+pub decide_sized-requires-2 : goal.decide_sized-requires-2
+decide_sized-requires-2 c =
+    let decides : Decides c.args.k c.args.extract c.args.query c.of-rows.result = record { given = c.requires; both = c.of-rows.ensures } in
+    let most = columns_most decides (sizes _ _ _ _ _ _ c.well_formed.0 c.well_formed.1.0 c.well_formed.1.1.0) in
+    record { decides = decides; room = omega (arith, most); most = omega arith }

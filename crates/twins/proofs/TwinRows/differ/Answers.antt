@@ -5,7 +5,7 @@ use lib.ListN.{length}
 use Rattle.base.proofs.Options.{none_of}
 use Rattle.conditions.proofs.Meeting.{within, ends_none}
 use Rattle.twins.proofs.Differing.{none_shared}
-use Rattle.twins.proofs.Turns.{turns_start, turns_row, turns_end, turn_asks, turn_in_array, turn_without, turn_passed, turn_with}
+use Rattle.conditions.proofs.Turns.{turns_start, turns_row, turns_end, turn_asks, turn_in_array, turn_without, turn_passed, turn_with}
 use Rattle.twins.proofs.TwinRows.differ.Goals as goal
 use Rattle.twins.proofs.TwinRows.differ.Goals.{else-lay_pair-via-then-lay_pair+else-separate, else-lay_pair-via-else-lay_pair}
 

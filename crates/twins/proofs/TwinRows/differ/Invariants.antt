@@ -9,7 +9,7 @@ use Rattle.zone.specs.Array.{zone_in}
 use Rattle.solver.specs.Solver.{imposed_all}
 use Rattle.conditions.specs.Meeting.{pairs_of}
 use Rattle.twins.specs.Pairs.{some_apart}
-use Rattle.twins.proofs.Turns.{turns_left}
+use Rattle.conditions.proofs.Turns.{turns_left}
 use Rattle.twins.proofs.TwinRows.differ.Given as goal
 
 abbrev pub invariant-loop-second : goal.invariant-loop-second

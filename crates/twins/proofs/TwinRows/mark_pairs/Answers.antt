@@ -5,7 +5,7 @@ use lib.ListN.{length}
 use Rattle.base.proofs.Tests.{is_T}
 use Rattle.twins.proofs.Marking.{marked_differ}
 use Rattle.twins.proofs.Pairing.{marks_start, marks_end, marks_settled, marks_turn}
-use Rattle.twins.proofs.Turns.{turns_row, turn_asks, turn_in_array}
+use Rattle.conditions.proofs.Turns.{turns_row, turn_asks, turn_in_array}
 use Rattle.twins.proofs.TwinRows.mark_pairs.Goals as goal
 use Rattle.twins.proofs.TwinRows.mark_pairs.Goals.{then-lay_pair, else-lay_pair}
 

@@ -10,7 +10,7 @@ use Rattle.conditions.specs.Meeting.{pairs_of}
 use Rattle.twins.specs.Pairs.{if_differ}
 use Rattle.twins.specs.Marks.{marked}
 use Rattle.twins.proofs.Pairing.{marked_by}
-use Rattle.twins.proofs.Turns.{turns_left}
+use Rattle.conditions.proofs.Turns.{turns_left}
 use Rattle.twins.proofs.TwinRows.mark_pairs.Given as goal
 
 abbrev pub invariant-loop-second : goal.invariant-loop-second
