@@ -12,6 +12,7 @@ ghost use Rattle.verdict.specs.Found.{one_kind, one_found, two_kind, two_found};
 ghost use Rattle.verdict.specs.Verdict.{IsVerdict};
 ghost use Rattle.verdict.specs.Uses.{FindsOne, FindsTwo, Given, DecidesSized, DecidesIn};
 
+use breaking::Choices;
 use databases::Database;
 use job::{Columns, Condition, Expression, Job};
 use model::{Held, Kind};
@@ -29,6 +30,7 @@ fn find_one(
     differ: bool,
     keeps: &Condition,
     wants: &Condition,
+    choices: &mut Choices,
     x: &mut [u64],
     y: &mut [u64],
     v: &mut [u64],
@@ -43,9 +45,9 @@ fn find_one(
         return Kind::TablesDiffer;
     }
     let always = conditions::always();
-    let k = breaking::put_choices(keeps);
+    breaking::put_choices(keeps, &mut *choices);
     if search::outside(
-        z, columns, &always, wants, &k, &mut *x, &mut *y, &mut *v, &mut *w, &mut *out,
+        z, columns, &always, wants, &*choices, &mut *x, &mut *y, &mut *v, &mut *w, &mut *out,
     ) {
         return Kind::RowNotKept;
     }
@@ -61,6 +63,7 @@ fn find_two(
     wants: &Condition,
     others: &Condition,
     cs: &[u8],
+    choices: &mut Choices,
     x: &mut [u64],
     y: &mut [u64],
     v: &mut [u64],
@@ -71,13 +74,13 @@ fn find_two(
     ensures kind { number_of_kind result ≡ two_kind (zone_in (rows.now.columns + 1) z.now) (condition_of keeps.now) (condition_of wants.now) (condition_of others.now) (some_apart (at rows.now.twin) cs.now) }
     ensures zone { Lies (rows.now.columns + 1) (two_found (zone_in (rows.now.columns + 1) z.now) (condition_of keeps.now) (condition_of wants.now) (condition_of others.now) (some_apart (at rows.now.twin) cs.now)) out.new }
 {
-    let k = breaking::put_choices(others);
+    breaking::put_choices(others, &mut *choices);
     if search::outside(
         z,
         rows.columns,
         keeps,
         wants,
-        &k,
+        &*choices,
         &mut *x,
         &mut *y,
         &mut *v,
@@ -120,6 +123,7 @@ fn decide_in(
     ensures { IsVerdict k extract query result }
 {
     let keeps_other = rows.rename(extract.condition);
+    let mut choices = Choices::default();
     solver::set_bounds(&mut *b, &rows.bounds[..k.width]);
     let differ = databases::tables_differ(&extract, &query);
     let mut kind = find_one(
@@ -128,6 +132,7 @@ fn decide_in(
         differ,
         &extract.condition,
         &query.condition,
+        &mut choices,
         &mut *x,
         &mut *y,
         &mut *v,
@@ -144,6 +149,7 @@ fn decide_in(
             &query.condition,
             &wants_other,
             &query.outputs[..query.width],
+            &mut choices,
             &mut *x,
             &mut *y,
             &mut *v,

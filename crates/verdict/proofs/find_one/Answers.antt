@@ -21,8 +21,8 @@ returns-then-met c =
 
 pub outside-requires : goal.outside-requires
 outside-requires c =
-    let put = c.put_choices-k.ensures in
-    outside_asks c.requires.searches.first c.put_choices-k.result put.ways put.size put.few
+    let put = c.put_choices.ensures in
+    outside_asks c.requires.searches.first c.put_choices.new.choices put.ways put.size put.few
     (record {
       in_array = c.requires.searches.in_array;
       first = rw c.always-always.ensures (always_fits _);
@@ -36,12 +36,12 @@ pub returns-then-outside : goal.returns-then-outside
 returns-then-outside c =
     let z = zone_in (c.args.columns + 1) c.args.z.now in
     let keeps = condition_of c.args.keeps.now in let wants = condition_of c.args.wants.now in
-    let put = c.put_choices-k.ensures in
+    let put = c.put_choices.ensures in
     let r = shows_2 (c.args.columns + 1) z c.args.differ keeps wants _
     (passes z c.args.differ wants (λ yes'. elim c.else-differ.branch [
       | else-differ-via-then-differ+else-met s ↦ none_of _ s.met.ensures.answer s.if-met.false
       | else-differ-via-else-differ s ↦ absurd (false≢true (sym s.if-differ.false ∙ yes'))
-    ])) (ends_as _ _ (outside_is c.requires.searches.first c.put_choices-k.result put.ways put.size z (condition_of c.always-always.result) wants
+    ])) (ends_as _ _ (outside_is c.requires.searches.first c.put_choices.new.choices put.ways put.size z (condition_of c.always-always.result) wants
     ∙ ap (λ (k : Condition). without z (condition_of k) wants keeps) c.always-always.ensures) (c.outside.ensures.answer, c.outside.ensures.zone))
     c.if-outside.true in
     record { kind = r.0; zone = r.1 }
@@ -50,12 +50,12 @@ pub returns : goal.returns
 returns c =
     let z = zone_in (c.args.columns + 1) c.args.z.now in
     let keeps = condition_of c.args.keeps.now in let wants = condition_of c.args.wants.now in
-    let put = c.put_choices-k.ensures in
+    let put = c.put_choices.ensures in
     let r = shows_neither (c.args.columns + 1) z c.args.differ keeps wants _
     (passes z c.args.differ wants (λ yes'. elim c.else-differ.branch [
       | else-differ-via-then-differ+else-met s ↦ none_of _ s.met.ensures.answer s.if-met.false
       | else-differ-via-else-differ s ↦ absurd (false≢true (sym s.if-differ.false ∙ yes'))
-    ])) (ends_as _ _ (outside_is c.requires.searches.first c.put_choices-k.result put.ways put.size z (condition_of c.always-always.result) wants
+    ])) (ends_as _ _ (outside_is c.requires.searches.first c.put_choices.new.choices put.ways put.size z (condition_of c.always-always.result) wants
     ∙ ap (λ (k : Condition). without z (condition_of k) wants keeps) c.always-always.ensures) (c.outside.ensures.answer, c.outside.ensures.zone))
     c.if-outside.false in
     record { kind = r.0; zone = r.1 }
