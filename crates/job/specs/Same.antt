@@ -1,4 +1,4 @@
--- Whether two records are alike, entry by entry.
+-- Whether two records are alike, entry by entry: what `==` answers (`derived_is` in proofs/Derived.antt).
 use Rattle.std.specs.Prelude.{Bool, ◌&&◌, eqb}
 use Rattle.base.specs.Lists.{pairwise}
 use Rattle.words.specs.Compare.{eq_z}

@@ -3,7 +3,6 @@
 
 ghost use Rattle.std.specs.Prelude.{◌≡◌};
 ghost use Rattle.job.specs.Record.{no_job};
-ghost use Rattle.job.specs.Same.{same_job};
 ghost use Rattle.job.specs.Meaning.{bounds_of};
 
 use model::Bounds;
@@ -95,17 +94,10 @@ impl Job {
 
     pub const HIGHEST: i32 = 1_000_000;
 
-    // Zeros throughout: what stands beside a refusal, and what reading begins with.
+    // Zeros throughout: what reading begins with.
     pub fn empty() -> Self
         ensures { result ≡ no_job }
     {
         Self::default()
     }
-}
-
-// Whether two records are alike, entry by entry.
-pub fn same(a: Job, b: Job) -> bool
-    ensures { result ≡ same_job a b }
-{
-    a == b
 }
