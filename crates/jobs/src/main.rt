@@ -10,8 +10,9 @@ ghost use Rattle.std.specs.Prelude.{◌+◌, ◌<◌, ◌≤◌, length};
 
 use databases::Database;
 use job::Job;
-use pobghine::{Decision, Written};
+use layout::Refusal;
 use std::io::{ErrorKind, Read, Result, Write};
+use verdict::Verdict;
 
 fn put_head(output: &mut impl Write, number: u8, n: usize) -> Result<()> {
     let mut head = [number; 5];
@@ -31,30 +32,34 @@ fn put_database(d: Database, out: &mut [u8], at: usize)
     }
 }
 
-fn put_verdict(output: &mut impl Write, job: Job) -> Result<()> {
-    let d = pobghine::decide(job);
-    let answer = d.answer;
-    let Decision::Kind(kind) = answer else {
-        // What is written is decided, so this never comes up.
-        return Err(ErrorKind::InvalidData.into());
-    };
+fn put_verdict(output: &mut impl Write, v: Verdict) -> Result<()> {
     let mut out = [0u8; 153];
-    out[0] = kind;
-    out[1..17].copy_from_slice(&d.listing);
-    put_database(d.first, &mut out, 17);
-    put_database(d.second, &mut out, 85);
+    out[0] = u8::from(v.kind);
+    for (c, held) in v.listing.iter().enumerate() {
+        out[1 + c] = u8::from(*held);
+    }
+    put_database(v.first, &mut out, 17);
+    put_database(v.second, &mut out, 85);
     output.write_all(&out)
+}
+
+fn put_refusal(output: &mut impl Write, r: Refusal) -> Result<()> {
+    put_head(output, u8::from(r.fault), r.at)
 }
 
 fn answer_whole(output: &mut impl Write, job: Job) -> Result<()> {
     let mut out = [0u8; writer::MAX_JOB_BYTES];
     match pobghine::write(job, &mut out) {
-        Written::Refused(number, at) => put_head(output, number, at),
-        Written::Count(n) => {
+        Ok(n) => {
             put_head(output, 0, n)?;
             output.write_all(&out[..n])?;
-            put_verdict(output, job)
         }
+        Err(r) => return put_refusal(output, r),
+    }
+    match pobghine::decide(job) {
+        Ok(v) => put_verdict(output, v),
+        // What is written is decided, so this never comes up.
+        Err(_refusal) => Err(ErrorKind::InvalidData.into()),
     }
 }
 
@@ -63,7 +68,7 @@ fn answer_job<R: Read, W: Write>(input: &mut R, output: &mut W, s: &mut [u8]) ->
     input.read_exact(s)?;
     match pobghine::read(s) {
         Ok(job) => answer_whole(output, job),
-        Err(refusal) => put_head(output, u8::from(refusal.fault), refusal.at),
+        Err(r) => put_refusal(output, r),
     }
 }
 

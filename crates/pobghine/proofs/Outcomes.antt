@@ -8,8 +8,9 @@ use lib.ListN.{length, take, drop, length-append}
 use lib.Seq.{take-append_seam}
 use lib.Dec.{leb}
 use borrow.Author.Tests.{le-leb, lt-leb}
+use Rattle.std.specs.Prelude.{Ok, Err}
 use Rattle.job.specs.declared.Job.{Job}
-use Rattle.pobghine.specs.declared.Written.TheVariants.{Count, Refused}
+use Rattle.layout.specs.Faults.{refusal_of}
 use Rattle.pobghine.specs.Records.{is_read, bytes_of, written_of, lent_after}
 
 -- n bytes, those of a record, stand at the start of b
@@ -21,18 +22,18 @@ module _ (r : Job) (b : List ℕ) (n : ℕ) (rest : List ℕ) (count : n ≡ len
   front = rw (bytes, count) (take-append_seam (bytes_of r) rest)
 
 module _ (r : Job) (old : List ℕ) where
-  pub never_read : is_read r ≡ false → (Refused 12 0 ≡ written_of r (length old)) × (old ≡ lent_after r old)
+  pub never_read : is_read r ≡ false → (Err (refusal_of 12 0) ≡ written_of r (length old)) × (old ≡ lent_after r old)
   unfolding written_of lent_after
   never_read e = rw e (refl, refl)
 
   module _ (given : is_read r ≡ true) (n : ℕ) (count : n ≡ length (bytes_of r)) where
-    pub too_few : length old < n → (Refused 17 0 ≡ written_of r (length old)) × (old ≡ lent_after r old)
+    pub too_few : length old < n → (Err (refusal_of 17 0) ≡ written_of r (length old)) × (old ≡ lent_after r old)
     unfolding written_of lent_after
     too_few h = rw (given, ← count, lt-leb _ _ h) (refl, refl)
 
     pub enough : n ≤ length old → (new : List ℕ) → new ≡ bytes_of r ++ drop (length (bytes_of r)) old
-        → (Count n ≡ written_of r (length old)) × (new ≡ lent_after r old)
+        → (Ok n ≡ written_of r (length old)) × (new ≡ lent_after r old)
     unfolding written_of lent_after
     enough h new e =
         let t : leb (length (bytes_of r)) (length old) ≡ true = le-leb (length (bytes_of r)) (length old) (omega arith) in
-        rw (given, t) (ap Count count, e)
+        rw (given, t) (ap Ok count, e)

@@ -3,3 +3,4 @@ pub mod Most
 pub mod Rooms
 pub mod Printed
 pub mod Samples
+pub mod Numbers

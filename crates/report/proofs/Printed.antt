@@ -1,7 +1,7 @@
 -- What is printed, by way of the record that is read and of what is decided of it. Assumes nothing.
 use mathlib.Core.Path.{◌≡◌, refl, sym, ap, ◌∙◌}
-use mathlib.Core.List.{List}
-use Prim.Native.Nat.{ℕ, ◌≤◌}
+use mathlib.Core.List.{List, [], ◌∷◌, map}
+use Prim.Native.Nat.{ℕ, zero, suc, ◌≤◌}
 use native.Mathlib.Omega.{arith}
 use lib.ListN.{length, take}
 use lib.Dec.{T}
@@ -14,34 +14,41 @@ use Rattle.base.proofs.Arrays.{take_padded}
 use Rattle.model.specs.Tables as model
 use Rattle.model.specs.WellFormed.{well_formed}
 use Rattle.model.proofs.Formed.{well_formed_lem}
+use Rattle.model.specs.Answers.{number_of_kind, number_of_held}
 use Rattle.model.specs.Verdict.{columns}
 use Rattle.job.specs.declared.Job.{Job}
-use Rattle.job.specs.Meaning.{record_of}
+use Rattle.job.specs.Meaning.{declared_in, record_of}
 use Rattle.layout.specs.declared.Refusal.{Refusal}
 use Rattle.layout.specs.Faults.{number_of_fault}
 use Rattle.layout.proofs.Faults.{read_numbered}
 use Rattle.layout.specs.Reading.{Reading, accepted, refused, read_of}
 use Rattle.layout.proofs.Theorems.{read_formed, read_enough}
 use Rattle.reader.specs.Answers.{decoded_of}
+use Rattle.verdict.specs.declared.Verdict.{Verdict}
 use Rattle.verdict.specs.Verdict.{listing_record}
-use Rattle.pobghine.specs.declared.Decision.{Decision}
-use Rattle.pobghine.specs.declared.Decision.TheVariants as decided
 use Rattle.pobghine.specs.Records.{is_read}
-use Rattle.pobghine.specs.Deciding.{decision_of, listing_in}
+use Rattle.pobghine.specs.Deciding.{decision_of, kind_in}
 use Rattle.pobghine.proofs.Judged.{is_judged, meaning_back}
 use Rattle.report.specs.Text.{refusal_text, verdict_text}
 use Rattle.report.specs.Printed.{job_text, reading_text, printed, decision_text, record_text}
 
--- ---- what is decided of a record
-module _ (r : Job) {d : Decision} {listing : List ℕ} (told : d ≡ decision_of r) (listed : listing ≡ listing_in r) where
-  pub refused_record : {n at : ℕ} → d ≡ decided.Refused n at → refusal_text n at ≡ record_text r
-  unfolding record_text
-  refused_record e = ap (λ x. decision_text x (take r.width (listing_in r))) (sym e ∙ told)
+map_take : {A B : Type 0} (f : A → B) (n : ℕ) (l : List A) → map f (take n l) ≡ take n (map f l)
+map_take f zero l = refl
+map_take f (suc n) [] = refl
+map_take f (suc n) (x ∷ l) = rw (map_take f n l)
 
-  pub judged_record : {k : ℕ} → d ≡ decided.Kind k → verdict_text k (take r.width listing) ≡ record_text r
+-- ---- what is decided of a record
+module _ (r : Job) {d : Result Verdict Refusal} (told : kind_in d ≡ decision_of r) where
+  pub refused_record : {f : Refusal} → d ≡ Err f → refusal_text (number_of_fault f.fault) f.at ≡ record_text r
   unfolding record_text
-  judged_record {k} e =
-      ap (λ l. verdict_text k (take r.width l)) listed ∙ ap (λ x. decision_text x (take r.width (listing_in r))) (sym e ∙ told)
+  refused_record e = ap (λ x. decision_text x (take r.width (listing_record (declared_in r) r.extract r.query))) (ap kind_in (sym e) ∙ told)
+
+  pub judged_record : {v : Verdict} → d ≡ Ok v → map number_of_held v.listing ≡ listing_record (declared_in r) r.extract r.query
+      → verdict_text (number_of_kind v.kind) (map number_of_held (take r.width v.listing)) ≡ record_text r
+  unfolding record_text
+  judged_record {v} e listed =
+      rw (map_take number_of_held r.width v.listing, listed)
+      (ap (λ x. decision_text x (take r.width (listing_record (declared_in r) r.extract r.query))) (ap kind_in (sym e) ∙ told))
 
 -- ---- of the record of a job
 row_width : (j : model.Job) → (record_of j).width ≡ length (columns j)
@@ -52,7 +59,7 @@ listed_first : (f : ℕ → ℕ) (n w : ℕ) → take w (padded n 0 (tabulate w 
 listed_first f n w = take_padded n 0 (tabulate w f) w (sym (tabulate_length w f))
 
 record_job : (j : model.Job) → T (well_formed j) → record_text (record_of j) ≡ job_text j
-unfolding record_text decision_of listing_in listing_record
+unfolding record_text decision_of listing_record
 record_job j w = rw (T-is (is_read (record_of j)) (is_judged j w), meaning_back j w, row_width j, listed_first _ 16 (length (columns j)))
 
 -- ---- of bytes

@@ -1,13 +1,15 @@
 -- What the deciding program prints for the bytes that it reads.
-use Rattle.std.specs.Prelude.{List, ℕ, length, take}
+use Rattle.std.specs.Prelude.{List, ℕ, length, take, Result, Ok, Err}
 use Rattle.base.specs.Lists.{tabulate}
 use Rattle.model.specs.Tables as model
 use Rattle.model.specs.Verdict.{columns, kind_of, listing_of}
 use Rattle.job.specs.declared.Job.{Job}
+use Rattle.job.specs.Meaning.{declared_in}
 use Rattle.layout.specs.Reading.{Reading, accepted, refused, read_of}
-use Rattle.pobghine.specs.declared.Decision.{Decision}
-use Rattle.pobghine.specs.declared.Decision.TheVariants.{Kind, Refused}
-use Rattle.pobghine.specs.Deciding.{decision_of, listing_in}
+use Rattle.layout.specs.declared.Refusal.{Refusal}
+use Rattle.layout.specs.Faults.{number_of_fault}
+use Rattle.verdict.specs.Verdict.{listing_record}
+use Rattle.pobghine.specs.Deciding.{decision_of}
 use Rattle.report.specs.Text.{refusal_text, verdict_text}
 
 -- of a job: its kind, and the listing of each declared column
@@ -24,9 +26,10 @@ printed s = reading_text (read_of s)
 
 -- ---- Of a record
 
-abbrev pub decision_text : Decision → List ℕ → List ℕ
-decision_text (Kind k) listing = verdict_text k listing
-decision_text (Refused n at) listing = refusal_text n at
+abbrev pub decision_text : Result ℕ Refusal → List ℕ → List ℕ
+decision_text (Ok kind) listing = verdict_text kind listing
+decision_text (Err f) listing = refusal_text (number_of_fault f.fault) f.at
 
+-- the listing is that of the declared columns alone
 unfoldable pub record_text : Job → List ℕ
-record_text r = decision_text (decision_of r) (take r.width (listing_in r))
+record_text r = decision_text (decision_of r) (take r.width (listing_record (declared_in r) r.extract r.query))

@@ -1,15 +1,18 @@
 // What the deciding program prints for the bytes that it reads: a refusal, or a verdict.
 #![tactic(auto)]
 
-ghost use Rattle.std.specs.Prelude.{◌≡◌, ◌++◌, ◌+◌, ◌≤◌, length, drop};
+ghost use Rattle.std.specs.Prelude.{◌≡◌, ◌++◌, ◌+◌, ◌≤◌, map, length, drop};
 ghost use Rattle.base.specs.Lists.{flat_map};
 ghost use Rattle.base.specs.Bytes.{Room, Puts};
+ghost use Rattle.model.specs.Answers.{number_of_kind, number_of_held};
+ghost use Rattle.layout.specs.Faults.{number_of_fault};
 ghost use Rattle.report.specs.Text.{digits, field, refusal_text, verdict_text};
 ghost use Rattle.report.specs.Printed.{printed, record_text};
 
 use base::Output;
 use job::Job;
-use pobghine::Decision;
+use layout::Fault;
+use model::{Held, Kind};
 
 // Enough bytes for every text: a verdict would take as many if its kind and the listing of 16 columns had three digits each.
 pub const MOST: usize = 81;
@@ -35,31 +38,31 @@ fn put_field(out: &mut Output, word: &[u8], n: usize)
 }
 
 // The listing: a number for each column.
-fn put_columns(out: &mut Output, columns: &[u8])
-    requires { Room out.old (flat_map columns.now (field " ")) }
-    ensures { Puts out.old out.new (flat_map columns.now (field " ")) }
+fn put_columns(out: &mut Output, columns: &[Held])
+    requires { Room out.old (flat_map columns.now (λ h. field " " (number_of_held h))) }
+    ensures { Puts out.old out.new (flat_map columns.now (λ h. field " " (number_of_held h))) }
 {
     for c in columns {
-        put_field(out, b" ", usize::from(*c));
+        put_field(out, b" ", usize::from(u8::from(*c)));
     }
 }
 
 // The text of a refusal.
-fn refusal(out: &mut Output, number: u8, at: usize)
+fn refusal(out: &mut Output, fault: Fault, at: usize)
     requires { out.old.at + MOST ≤ length out.old.bytes.now }
-    ensures { Puts out.old out.new (refusal_text number at) }
+    ensures { Puts out.old out.new (refusal_text (number_of_fault fault) at) }
 {
-    put_field(out, b"refused ", usize::from(number));
+    put_field(out, b"refused ", usize::from(u8::from(fault)));
     put_field(out, b" at ", at);
     out.put(b'\n');
 }
 
 // The text of a verdict.
-fn verdict(out: &mut Output, kind: u8, columns: &[u8])
+fn verdict(out: &mut Output, kind: Kind, columns: &[Held])
     requires { (out.old.at + MOST ≤ length out.old.bytes.now) × (length columns.now ≤ 16) }
-    ensures { Puts out.old out.new (verdict_text kind columns.now) }
+    ensures { Puts out.old out.new (verdict_text (number_of_kind kind) (map number_of_held columns.now)) }
 {
-    put_field(out, b"kind ", usize::from(kind));
+    put_field(out, b"kind ", usize::from(u8::from(kind)));
     out.put_all(b"\ncolumns");
     put_columns(out, columns);
     out.put(b'\n');
@@ -71,12 +74,9 @@ fn decided(out: &mut Output, job: Job)
     ensures { Puts out.old out.new (record_text job) }
 {
     let width = job.width;
-    let d = pobghine::decide(job);
-    let decision = d.answer;
-    let listing = d.listing;
-    match decision {
-        Decision::Refused(number, at) => refusal(out, number, at),
-        Decision::Kind(kind) => verdict(out, kind, &listing[..width]),
+    match pobghine::decide(job) {
+        Ok(v) => verdict(out, v.kind, &v.listing[..width]),
+        Err(r) => refusal(out, r.fault, r.at),
     }
 }
 
@@ -89,7 +89,7 @@ pub fn text(s: &[u8], out: &mut [u8]) -> usize
     let mut to = Output { bytes: out, at: 0 };
     match pobghine::read(s) {
         Ok(job) => decided(&mut to, job),
-        Err(refused) => refusal(&mut to, u8::from(refused.fault), refused.at),
+        Err(r) => refusal(&mut to, r.fault, r.at),
     }
     to.at
 }

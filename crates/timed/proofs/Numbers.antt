@@ -7,9 +7,8 @@ use Rattle.job.specs.declared.Job.{Job}
 use Rattle.layout.specs.declared.Refusal.{Refusal}
 use Rattle.layout.specs.Reading.{read_of}
 use Rattle.reader.specs.Answers.{decoded_of}
-use Rattle.pobghine.specs.declared.Decision.{Decision}
 use Rattle.pobghine.specs.Deciding.{decision_of}
-use Rattle.timed.specs.Call.{if_whole, kind_in, read_number, kind_number}
+use Rattle.timed.specs.Call.{if_whole, kind_or_255, read_number, kind_number}
 
 module _ (s : List ℕ) {d : Result Job Refusal} (is : d ≡ decoded_of (read_of s)) where
   pub whole_read : {r : Job} → d ≡ Ok r → 0 ≡ read_number s
@@ -20,9 +19,9 @@ module _ (s : List ℕ) {d : Result Job Refusal} (is : d ≡ decoded_of (read_of
     refused_read = ap (λ x. if_whole x (λ r. 0)) (sym w ∙ is)
 
     pub refused_decided : 255 ≡ kind_number s
-    refused_decided = ap (λ x. if_whole x (λ r. kind_in (decision_of r))) (sym w ∙ is)
+    refused_decided = ap (λ x. if_whole x (λ r. kind_or_255 (decision_of r))) (sym w ∙ is)
 
   -- a is what deciding answers
-  module _ {r : Job} (w : d ≡ Ok r) {a : Decision} (told : a ≡ decision_of r) where
-    pub number_decided : kind_in a ≡ kind_number s
-    number_decided = ap kind_in told ∙ ap (λ x. if_whole x (λ r. kind_in (decision_of r))) (sym w ∙ is)
+  module _ {r : Job} (w : d ≡ Ok r) {a : Result ℕ Refusal} (told : a ≡ decision_of r) where
+    pub number_decided : kind_or_255 a ≡ kind_number s
+    number_decided = ap kind_or_255 told ∙ ap (λ x. if_whole x (λ r. kind_or_255 (decision_of r))) (sym w ∙ is)

@@ -5,8 +5,6 @@ use Rattle.job.specs.declared.Job.{Job}
 use Rattle.layout.specs.declared.Refusal.{Refusal}
 use Rattle.layout.specs.Reading.{read_of}
 use Rattle.reader.specs.Answers.{decoded_of}
-use Rattle.pobghine.specs.declared.Decision.{Decision}
-use Rattle.pobghine.specs.declared.Decision.TheVariants as decided
 use Rattle.pobghine.specs.Deciding.{decision_of}
 
 -- a constraint that was passed in parts
@@ -18,12 +16,13 @@ abbrev pub if_whole : Result Job Refusal → (Job → ℕ) → ℕ
 if_whole (Ok r) f = f r
 if_whole (Err e) f = 255
 
-abbrev pub kind_in : Decision → ℕ
-kind_in (decided.Kind k) = k
-kind_in (decided.Refused n at) = 255
+-- a kind's number, or 255
+abbrev pub kind_or_255 : Result ℕ Refusal → ℕ
+kind_or_255 (Ok k) = k
+kind_or_255 (Err e) = 255
 
 abbrev pub read_number : List ℕ → ℕ
 read_number s = if_whole (decoded_of (read_of s)) (λ r. 0)
 
 abbrev pub kind_number : List ℕ → ℕ
-kind_number s = if_whole (decoded_of (read_of s)) (λ r. kind_in (decision_of r))
+kind_number s = if_whole (decoded_of (read_of s)) (λ r. kind_or_255 (decision_of r))

@@ -7,7 +7,6 @@ ghost use Rattle.zone.specs.Array.{zone_in, laid};
 ghost use Rattle.zone.specs.Uses.{Constrains};
 ghost use Rattle.timed.specs.Call.{passed, read_number, kind_number};
 
-use pobghine::Decision;
 use zone::Constraint;
 
 // `zone::constrain`, with the constraint in parts: a struct would be passed in memory.
@@ -45,10 +44,8 @@ pub extern "C" fn timed_decide(bytes: &[u8]) -> u8
     let Ok(job) = pobghine::read(bytes) else {
         return 255;
     };
-    let decided = pobghine::decide(job);
-    let decision = decided.answer;
-    match decision {
-        Decision::Kind(kind) => kind,
-        Decision::Refused(_number, _at) => 255,
+    match pobghine::decide(job) {
+        Ok(v) => u8::from(v.kind),
+        Err(_refusal) => 255,
     }
 }

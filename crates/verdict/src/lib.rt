@@ -23,7 +23,8 @@ const SMALL: usize = 13 * zone::WIDTH;
 
 // ---- The kind
 
-// Kind 1 or 2, and the rows of a zone that show it, or 0; `differ` says whether the used tables differ.
+// Kind 1 or 2, and the rows of a zone that show it, or 0; `differ` says whether the used tables differ. Arrays are lent one by one, as in
+// crate search.
 fn find_one(
     z: &[u64],
     columns: usize,
@@ -106,7 +107,8 @@ pub struct Verdict {
     pub second: Database,
 }
 
-// Decides in lent arrays, each of which holds a zone of two rows as one.
+// Decides in lent arrays, each of which holds a zone of two rows as one. Columns, extract and query stay three, as in a job's record: a
+// contract names one or two of them as often as all.
 fn decide_in(
     k: Columns,
     extract: Expression,

@@ -3,6 +3,7 @@ use mathlib.Core.Path.{◌≡◌, sym, ap, ◌∙◌}
 use Prim.Native.Nat.{◌≤◌}
 use lib.ListN.{length}
 use lib.Seq.{length-take-le}
+use Rattle.job.proofs.Derived.{derived_is}
 use Rattle.layout.specs.Reading.{read_of}
 use Rattle.reader.specs.Answers.{decoded_of}
 use Rattle.pobghine.specs.Records.{bytes_of}
@@ -36,4 +37,4 @@ returns c =
     let w = c.write-n in
     let bytes = front c.args.job _ _ _ w.ensures.count w.ensures.bytes in
     c.read.ensures ∙ ap (λ s. decoded_of (read_of s)) bytes in
-    c.same.ensures ∙ judged_whole _ _ read_again _ c.in-Ok.is
+    c.eq.ensures ∙ derived_is c.args.job c.in-Ok.again ∙ judged_whole _ _ read_again _ c.in-Ok.is
