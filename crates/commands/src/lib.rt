@@ -74,7 +74,7 @@ pub fn command(b: u8) -> Option<Command>
     }
 }
 
-// How many operand bytes stand behind a command.
+// How many operand bytes stand behind a command. Here and below a match names every command, so that none is forgotten.
 pub fn operands(c: Command) -> usize
     ensures { result ≡ operands c }
 {

@@ -40,7 +40,7 @@ fn write_from<W: Write>(output: &mut W, s: &[u8], at: usize) -> io::Result<usize
     output.write(&s[at..])
 }
 
-// Reads until the input ends or s is full.
+// Reads until the input ends or s is full. A call takes as many bytes as it likes, so the loop counts these.
 fn read_input<R: Read>(clock: &impl Clock, input: &mut R, s: &mut [u8]) -> io::Result<usize>
     ensures within { AtMost (length s.new) result }
     ensures bytes { IfOk result (λ n. Consumes (R.remaining input.old) (R.remaining input.new) (take n s.new)) }
@@ -60,7 +60,7 @@ fn read_input<R: Read>(clock: &impl Clock, input: &mut R, s: &mut [u8]) -> io::R
     Ok(done)
 }
 
-// Writes all of s. A write that takes nothing counts as one that failed.
+// Writes all of s, in a loop as that of reading; but a write that takes nothing counts as one that failed.
 fn write_output<W: Write>(clock: &impl Clock, output: &mut W, s: &[u8]) -> io::Result<()>
     ensures { OnOk result (Appends (W.contents output.old) (W.contents output.new) s.now) }
 {

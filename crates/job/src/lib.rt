@@ -1,4 +1,5 @@
-// A job as a record of fixed size, passed by value. specs/Meaning.antt says which job of document 01 a record stands for.
+// A job as a record of fixed size, passed by value. specs/Meaning.antt says which job of document 01 a record stands for. Lists are arrays
+// with a count beside, since nothing is allocated; a record that is lent may have any count.
 #![tactic(auto)]
 
 ghost use Rattle.std.specs.Prelude.{◌≡◌};
@@ -27,7 +28,7 @@ impl Column {
 }
 
 // A comparison by an op. Right is 0 where the left column is compared with the number, else one more than the column that it is compared
-// with.
+// with. The op is a number and no `Op`, since a record that is lent may have any: what reading never gives is refused.
 #[derive(Clone, Copy, PartialEq, Eq, Default)]
 pub struct Comparison {
     pub op: u8,

@@ -123,7 +123,7 @@ fn put(first: u8, row: &[i32], out: &mut [u8])
     }
 }
 
-// Answers a list of n columns and m comparisons, and says how many bytes the answer has.
+// Answers a list of n columns and m comparisons, and says how many bytes the answer has. A caller has read n and m, which come first.
 pub fn answer(n: usize, m: usize, s: &[u8], out: &mut [u8]) -> usize
     requires { Room n m s.now out.old }
     ensures count { result ≡ count_of n m s.now }

@@ -1,4 +1,4 @@
-// The update of a zone, and reading and deciding a job, exported so that bench/ can time them beside C.
+// The update of a zone, and reading and deciding a job, exported so that bench/ can time them beside C, in C's types: numbers and bools.
 #![tactic(auto)]
 
 ghost use Rattle.std.specs.Prelude.{◌≡◌};

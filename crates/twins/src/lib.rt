@@ -46,6 +46,7 @@ fn rename_comparison(k: Comparison, twin: &[u8; Job::COLUMNS]) -> Comparison
     Comparison { left, right, ..k }
 }
 
+// In each comparison of a clause, as `rename` does in each clause of a condition.
 fn rename_clause(c: Clause, twin: &[u8; Job::COLUMNS]) -> Clause
     requires { RenamesClause c twin.now }
     ensures { result ≡ renamed_clause twin.now c }

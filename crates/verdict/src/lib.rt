@@ -56,7 +56,7 @@ fn find_one(
 }
 
 // Kind 3 or 4, and two rows as one of a zone that show it, or 0. Kind 2 has been ruled out: a row that the query wants is one that the
-// extract keeps, so it is asked of the second row alone.
+// extract keeps, so it is asked of the second row alone. Other rows are sought than in `find_one`, and only the search is shared.
 fn find_two(
     z: &[u64],
     rows: &TwinRows,

@@ -67,7 +67,7 @@ fn put_each(out: &mut Output, b: u8, l: &[u8], count: usize)
     }
 }
 
-// The number of the op that an op's number means: above 4, that is 4.
+// The number of the op that an op's number means: above 4, that is 4, since a record may have any.
 fn op_number(op: u8) -> u8
     ensures { result ≡ number_of_op (op_at op) }
 {
