@@ -41,7 +41,7 @@ pub fn is_start(s: &[u8]) -> bool
     s.starts_with(b"PSJ1")
 }
 
-// The command that a byte stands for.
+// The command that a byte stands for. The bytes are matched over their ranges, as they are listed; std's TryFrom would want an error.
 #[tactic(auto, unfolding(layout::specs::Commands::command_of))]
 pub fn command(b: u8) -> Option<Command>
     ensures { result ≡ command_of b }
@@ -109,7 +109,7 @@ pub fn follows(c: Command, last: u8, in_query: bool) -> bool
     }
 }
 
-// Whether the last command stands in a condition. A comparison may follow it then.
+// Whether the last command, by its byte as in `follows`, stands in a condition. A comparison may follow it then.
 fn is_in_condition(last: u8) -> bool
     ensures { result ≡ any_of (eqb last) in_condition }
 {

@@ -14,6 +14,7 @@ use layout::Refusal;
 use std::io::{ErrorKind, Read, Result, Write};
 use verdict::Verdict;
 
+// A refusal's number or 0, and the four bytes behind it: bytes of the output, and no more than that.
 fn put_head(output: &mut impl Write, number: u8, n: usize) -> Result<()> {
     let mut head = [number; 5];
     head[1..].copy_from_slice(&n.to_le_bytes()[..4]);
