@@ -10,7 +10,6 @@ use Rattle.base.specs.Lists.{all_of}
 use Rattle.base.proofs.Places.{all_at, map_at}
 use Rattle.job.specs.declared.Clause.{Clause}
 use Rattle.job.specs.declared.Condition.{Condition}
-use Rattle.job.specs.Record.{no_clause}
 use Rattle.job.specs.Meaning.{clause_of, condition_of}
 use Rattle.solver.specs.Solver.{comparison_fits}
 use Rattle.conditions.specs.Uses.{ClauseFits, ConditionFits}
@@ -53,7 +52,3 @@ module _ (k : Condition) (q : ℕ) where
       small = rw item_is (u.small.comparisons q (omega (arith, item_below, u.small.clauses)));
       fit = rw item_of at (all_at (all_of (comparison_fits n)) (condition_of k) q [] u.fit item_more);
     }
-
--- the clause that asks nothing fits any columns
-pub nothing_fits : (n : ℕ) → ClauseFits n no_clause
-nothing_fits n = record { small = omega arith; fit = tt }

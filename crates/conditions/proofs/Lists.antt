@@ -2,34 +2,23 @@
 use mathlib.Core.Path.{◌≡◌, refl, sym, ◌∙◌}
 use mathlib.Core.List.{List, [], ◌∷◌, ◌++◌}
 use mathlib.Core.Option.{Option, none, some, none-ne-some, some-injective}
-use Prim.Native.Nat.{ℕ, suc}
 use lib.ListN.{length}
-use lib.Dec.{T}
-use mir.Facts.{and_yes}
-use Rattle.base.specs.Lists.{all_of}
 use Rattle.base.specs.Options.{and_then}
 use Rattle.model.specs.Tables.{Comparison}
-use Rattle.zone.specs.Zone.{Zone, Closed}
-use Rattle.zone.proofs.Answers.{Answers}
-use Rattle.solver.specs.Obeying.{ObeysAll}
-use Rattle.solver.specs.Comparisons.{list_of, constraints_of}
-use Rattle.solver.specs.Solver.{comparison_fits, imposed, imposed_all}
+use Rattle.zone.specs.Zone.{Zone, kept}
+use Rattle.solver.specs.Solver.{imposed, imposed_all}
 use Rattle.solver.specs.Lists.{onward, reached}
-use Rattle.solver.proofs.Solver.{imposed_answers}
+use Rattle.solver.proofs.Imposing.{imposed_length}
 
--- what is reached is closed, and has the same nodes
-pub reached_closed : (n : ℕ) (z : Zone) (ks : List Comparison) → Closed z → length z ≡ suc n → T (all_of (comparison_fits n) ks)
-    → Closed (reached z ks) × (length (reached z ks) ≡ suc n)
-reached_closed n z [] cl size fit = (cl, size)
-reached_closed n z (k ∷ ks) cl size fit =
-    let (f, g) = and_yes (comparison_fits n k) (all_of (comparison_fits n) ks) fit in
-    go (imposed z k) (imposed_answers n z k cl size f) (λ y c e. reached_closed n y ks c e g)
+-- what is reached has the same nodes
+pub reached_length : (z : Zone) (ks : List Comparison) → length (reached z ks) ≡ length z
+reached_length z [] = refl
+reached_length z (k ∷ ks) = go (imposed z k) (imposed_length z k) (λ y. reached_length y ks)
   where
-    go : (o : Option Zone) → Answers z (ObeysAll (list_of (constraints_of k))) o
-        → ((y : Zone) → Closed y → length y ≡ suc n → Closed (reached y ks) × (length (reached y ks) ≡ suc n))
-        → Closed (onward o z (λ x. reached x ks)) × (length (onward o z (λ x. reached x ks)) ≡ suc n)
-    go none a rest = (cl, size)
-    go (some y) (c, e, rows) rest = rest y c (e ∙ size)
+    go : (o : Option Zone) → length (kept z o) ≡ length z → ((y : Zone) → length (reached y ks) ≡ length y)
+        → length (onward o z (λ x. reached x ks)) ≡ length z
+    go none same rest = refl
+    go (some y) same rest = rest y ∙ same
 
 -- ---- one list after another
 pub imposed_append : (z : Zone) (ks ls : List Comparison) → imposed_all z (ks ++ ls) ≡ and_then (imposed_all z ks) (λ y. imposed_all y ls)

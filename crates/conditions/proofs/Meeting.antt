@@ -1,37 +1,22 @@
--- Clauses imposed on a copy of a zone: what is answered and left, by two clauses and by one. Assumes nothing.
+-- Clauses imposed on a zone: what is answered and left, by one and by two. Assumes nothing.
 use mathlib.Core.Path.{◌≡◌, refl, sym, ap, ◌∙◌}
 use mathlib.Core.Bool.{Bool, true, false, false≢true}
-use mathlib.Core.List.{List, ◌++◌}
+use mathlib.Core.List.{◌++◌}
 use mathlib.Core.Option.{Option, none, some, none-ne-some, some-injective}
-use Prim.Native.Nat.{ℕ, suc, ◌+◌, ◌*◌, ◌≤◌}
-use native.Mathlib.Omega.{arith}
-use native.Mathlib.Numerals.{add-one}
+use Prim.Native.Nat.{ℕ, ◌-◌}
 use lib.ListN.{length}
-use lib.Dec.{T}
-use mir.Facts.{yes_and}
-use Rattle.base.specs.Lists.{all_of}
 use Rattle.base.specs.Options.{is_some}
-use Rattle.base.proofs.Lists.{all_append}
 use Rattle.base.proofs.Options.{none_of}
 use Rattle.model.specs.Tables as model
 use Rattle.job.specs.declared.Clause.{Clause}
 use Rattle.job.specs.Meaning.{clause_of}
-use Rattle.zone.specs.Zone.{Zone}
-use Rattle.zone.specs.Array.{zone_in, laid, copied}
-use Rattle.zone.specs.Uses.{InArray, Copies}
-use Rattle.zone.proofs.Array.{zone_length, zone_copied}
-use Rattle.zone.proofs.Laid.{laid_is, laid_in_array, copied_in_array}
-use Rattle.solver.specs.Solver.{comparison_fits, imposed_all}
+use Rattle.zone.specs.Zone.{Zone, columns_of}
+use Rattle.solver.specs.Solver.{imposed_all}
 use Rattle.solver.specs.Lists.{reached}
 use Rattle.solver.proofs.Found.{reached_is}
 use Rattle.conditions.specs.Meeting.{Lies}
-use Rattle.conditions.specs.Uses.{ImposesClause, LaysPair}
-use Rattle.conditions.proofs.Lists.{reached_closed, imposed_append, reached_first, reached_second}
-
--- o is a zone of n nodes, which lies in an array
-pub record Found (n : ℕ) (o : Option Zone) (e : List ℕ) : Type 0 where
-  pub is : o ≡ some (zone_in n e)
-  pub in_array : InArray n e
+use Rattle.conditions.specs.Uses.{ClauseFits}
+use Rattle.conditions.proofs.Lists.{reached_length, imposed_append, reached_first, reached_second}
 
 -- what an answer tells: there is something
 pub some_of : {A : Type 0} {r : Bool} (o : Option A) → r ≡ is_some o → r ≡ true → (a : A) × (o ≡ some a)
@@ -41,106 +26,60 @@ some_of {A} o told some_row = go o (sym told ∙ some_row)
     go none e = absurd (false≢true e)
     go (some a) e = (a, refl)
 
--- what a function that seeks o answers, and where what it found lies
-abbrev pub Ends : ℕ → Option Zone → Bool → List ℕ → Type 0
-Ends n o r e = (r ≡ is_some o) × Lies n o e
+-- what a function that seeks o answers, and what it leaves
+abbrev pub Ends : Option Zone → Bool → Zone → Type 0
+Ends o r e = (r ≡ is_some o) × Lies o e
 
-pub ends_none : (n : ℕ) {o : Option Zone} (e : List ℕ) → o ≡ none → Ends n o false e
-ends_none n e is = (rw is, λ y found. absurd (none-ne-some y (sym is ∙ found)))
+pub ends_none : {o : Option Zone} (e : Zone) → o ≡ none → Ends o false e
+ends_none e is = (rw is, λ y found. absurd (none-ne-some y (sym is ∙ found)))
 
-pub ends_some : (n : ℕ) {o : Option Zone} (e : List ℕ) → o ≡ some (zone_in n e) → Ends n o true e
-ends_some n e is = (rw is, λ y found. some-injective (zone_in n e) y (sym is ∙ found))
+pub ends_some : {o : Option Zone} (e : Zone) → o ≡ some e → Ends o true e
+ends_some e is = (rw is, λ y found. some-injective e y (sym is ∙ found))
 
 -- what a search within the rows of a pair of clauses finds is what the whole search finds
-pub within : (n : ℕ) {i o : Option Zone} {r : Bool} (e : List ℕ) → Ends n i r e → r ≡ true → ((w : Zone) → i ≡ some w → o ≡ some w) → Ends n o true e
-within n {i} {o} {r} e ends some_row found =
+pub within : {i o : Option Zone} {r : Bool} (e : Zone) → Ends i r e → r ≡ true → ((w : Zone) → i ≡ some w → o ≡ some w) → Ends o true e
+within {i} {o} {r} e ends some_row found =
     let (w, is) = some_of i ends.0 some_row in
-    ends_some n e (found w is ∙ ap some (sym (ends.1 w is)))
+    ends_some e (found w is ∙ ap some (sym (ends.1 w is)))
 
--- ---- a list of comparisons that was imposed on the zone in an array; r and e are what was answered and left
-module _ (n : ℕ) {d : List ℕ} (u : InArray (n + 1) d) (k : model.Clause) (fit : T (all_of (comparison_fits n) k)) where
-  abbrev z : Zone
-  z = zone_in (n + 1) d
+-- ---- a list of comparisons that was imposed on a zone; r and e are what was answered and left
+abbrev pub Listed : Zone → model.Clause → Bool → Zone → Type 0
+Listed z k r e = (r ≡ is_some (imposed_all z k)) × (e ≡ reached z k)
 
-  size : length z ≡ suc n
-  size = zone_length (n + 1) d ∙ add-one n
+-- on a copy of the zone
+pub listed_in : {x : Zone} (z : Zone) (k : model.Clause) {r : Bool} {e : Zone} → x ≡ z
+    → r ≡ is_some (imposed_all x k) → e ≡ reached x k → Listed z k r e
+listed_in z k same told left = rw (← same) (told, left)
 
-  module _ {e : List ℕ} (left : e ≡ laid d (reached (zone_in (n + 1) d) k)) where
-    pub left_zone : zone_in (n + 1) e ≡ reached (zone_in (n + 1) d) k
-    left_zone =
-        let (closed, same) = reached_closed n z k u.closed size fit in
-        rw left (laid_is (n + 1) d (reached z k) u.room u.small closed (same ∙ sym (add-one n)))
+module _ (z : Zone) (k : model.Clause) {r : Bool} {e : Zone} (done : Listed z k r e) where
+  -- no row meets it, or those that do are there
+  pub listed_none : r ≡ false → imposed_all z k ≡ none
+  listed_none = none_of (imposed_all z k) done.0
 
-    pub left_in_array : InArray (n + 1) e
-    left_in_array =
-        let (closed, same) = reached_closed n z k u.closed size fit in
-        rw left (laid_in_array (n + 1) d (reached z k) u.room u.small closed (same ∙ sym (add-one n)))
+  pub listed_found : r ≡ true → imposed_all z k ≡ some e
+  listed_found some_row =
+      let (y, is) = some_of (imposed_all z k) done.0 some_row in
+      is ∙ ap some (sym (done.1 ∙ reached_is z k y is))
 
-  -- where some row meets the list, its zone lies in any array with room whose zone is the one that is reached
-  pub reached_found : {r : Bool} {e : List ℕ} → r ≡ is_some (imposed_all (zone_in (n + 1) d) k) → zone_in (n + 1) e ≡ reached (zone_in (n + 1) d) k
-      → (n + 1) * 33 ≤ length e → r ≡ true → Found (n + 1) (imposed_all (zone_in (n + 1) d) k) e
-  reached_found told left room some_row =
-      let (y, is) = some_of (imposed_all z k) told some_row in
-      let (closed, same) = reached_closed n z k u.closed size fit in
-      record {
-        is = is ∙ ap some (sym (left ∙ reached_is z k y is));
-        in_array = record { room = room; small = u.small; closed = rw left closed };
-      }
+-- ---- two clauses
+abbrev pub Paired : Zone → Clause → Clause → Bool → Zone → Type 0
+Paired z c e = Listed z (clause_of c ++ clause_of e)
 
--- ---- two clauses; x is the copy of the zone in z that is laid over `to`
-abbrev pub Paired : ℕ → List ℕ → Clause → Clause → Bool → List ℕ → Type 0
-Paired n z c e r y =
-    (r ≡ is_some (imposed_all (zone_in (n + 1) z) (clause_of c ++ clause_of e)))
-    × (zone_in (n + 1) y ≡ reached (zone_in (n + 1) z) (clause_of c ++ clause_of e))
+-- r and y are what the first clause answers and leaves
+module _ (z : Zone) (c e : Clause) {r : Bool} {y : Zone} (done : Listed z (clause_of c) r y) where
+  pub pair_none : r ≡ false → Paired z c e false y
+  pair_none no_row =
+      let nothing : imposed_all z (clause_of c) ≡ none = listed_none z (clause_of c) done no_row in
+      (rw (imposed_append z (clause_of c) (clause_of e), nothing), done.1 ∙ sym (reached_first z (clause_of c) (clause_of e) nothing))
 
-module _ {n : ℕ} {z to : List ℕ} {c e : Clause} (u : LaysPair n z c e to) where
-  pub pair_copies : Copies z to (n + 1)
-  pair_copies = record { from_room = u.in_array.room; to_room = u.room; small = u.in_array.small }
+  pub pair_second : r ≡ true → {s : Bool} {v : Zone} → Listed y (clause_of e) s v → Paired z c e s v
+  pair_second some_row next =
+      let first : imposed_all z (clause_of c) ≡ some y = listed_found z (clause_of c) done some_row in (
+        next.0 ∙ rw (imposed_append z (clause_of c) (clause_of e), first),
+        next.1 ∙ sym (reached_second z (clause_of c) (clause_of e) y first),
+      )
 
-  fits : T (all_of (comparison_fits n) (clause_of c ++ clause_of e))
-  fits = rw (all_append (comparison_fits n) (clause_of c) (clause_of e))
-      (yes_and (all_of (comparison_fits n) (clause_of c)) (all_of (comparison_fits n) (clause_of e)) u.first.fit u.second.fit)
-
-  -- no row meets both, or the rows that do are there
-  pub pair_nothing : {r : Bool} → r ≡ is_some (imposed_all (zone_in (n + 1) z) (clause_of c ++ clause_of e)) → r ≡ false
-      → imposed_all (zone_in (n + 1) z) (clause_of c ++ clause_of e) ≡ none
-  pair_nothing = none_of (imposed_all (zone_in (n + 1) z) (clause_of c ++ clause_of e))
-
-  pub pair_found : {r : Bool} {y : List ℕ} → Paired n z c e r y → length y ≡ length to → r ≡ true
-      → Found (n + 1) (imposed_all (zone_in (n + 1) z) (clause_of c ++ clause_of e)) y
-  pair_found is same some_row = reached_found n u.in_array (clause_of c ++ clause_of e) fits is.0 is.1 (omega (arith, same, u.room)) some_row
-
-  module _ {x : List ℕ} (copy : x ≡ copied (n + 1) z to) where
-    there : zone_in (n + 1) x ≡ zone_in (n + 1) z
-    there = rw copy (zone_copied (n + 1) z to u.in_array.small u.room)
-
-    in_copy : InArray (n + 1) x
-    in_copy = rw copy (copied_in_array to u.in_array u.room)
-
-    pub first_asks : ImposesClause n x c
-    first_asks = record { in_array = in_copy; clause = u.first }
-
-    -- r and y are what the first clause answers and leaves
-    module _ {r : Bool} {y : List ℕ} (told : r ≡ is_some (imposed_all (zone_in (n + 1) x) (clause_of c)))
-        (left : y ≡ laid x (reached (zone_in (n + 1) x) (clause_of c))) where
-      pub pair_none : r ≡ false → Paired n z c e false y
-      pair_none no_row =
-          let nothing : imposed_all (zone_in (n + 1) z) (clause_of c) ≡ none = rw there at (none_of (imposed_all (zone_in (n + 1) x) (clause_of c)) told no_row) in (
-            rw (imposed_append (zone_in (n + 1) z) (clause_of c) (clause_of e), nothing),
-            left_zone n in_copy (clause_of c) u.first.fit left ∙ rw there (sym (reached_first (zone_in (n + 1) z) (clause_of c) (clause_of e) nothing)),
-          )
-
-      pub second_asks : ImposesClause n y e
-      second_asks = record { in_array = left_in_array n in_copy (clause_of c) u.first.fit left; clause = u.second }
-
-      pub pair_second : r ≡ true → {s : Bool} {v : List ℕ} → (s ≡ is_some (imposed_all (zone_in (n + 1) y) (clause_of e)))
-          × (v ≡ laid y (reached (zone_in (n + 1) y) (clause_of e))) → Paired n z c e s v
-      pair_second some_row (told-2, left-2) =
-          let (w, is) = some_of (imposed_all (zone_in (n + 1) x) (clause_of c)) told some_row in
-          let first : imposed_all (zone_in (n + 1) z) (clause_of c) ≡ some w =
-          ap (λ (v : Zone). imposed_all v (clause_of c)) (sym there) ∙ is in
-          let at-w : zone_in (n + 1) y ≡ w = left_zone n in_copy (clause_of c) u.first.fit left ∙ reached_is (zone_in (n + 1) x) (clause_of c) w is in (
-            told-2 ∙ rw (imposed_append (zone_in (n + 1) z) (clause_of c) (clause_of e), first, at-w),
-            left_zone n second_asks.in_array (clause_of e) u.second.fit left-2
-                ∙ rw at-w (sym (reached_second (zone_in (n + 1) z) (clause_of c) (clause_of e) w first)),
-          )
+  pub second_asks : ClauseFits (columns_of z) e → ClauseFits (columns_of y) e
+  second_asks fit =
+      let same : columns_of y ≡ columns_of z = ap (λ (n : ℕ). n - 1) (ap length done.1 ∙ reached_length z (clause_of c)) in
+      rw same fit

@@ -1,7 +1,6 @@
 -- Loops over the clauses of a condition, and over those of two: the first for which something is given. Assumes nothing.
 use mathlib.Core.Path.{◌≡◌, sym, ◌∙◌}
-use mathlib.Core.Bool.{Bool, true, false}
-use mathlib.Core.List.{List, [], ◌∷◌, ◌++◌, map}
+use mathlib.Core.List.{[], ◌∷◌, ◌++◌, map}
 use mathlib.Core.Option.{Option, none, some}
 use Prim.Native.Nat.{ℕ, zero, suc, ◌+◌, ◌<◌, ◌≤◌, ◌*◌}
 use native.Mathlib.Nat.{add_assoc, add_comm, add-zero, zero-add, zero-mul, suc-mul}
@@ -12,17 +11,11 @@ use Rattle.base.specs.Options.{first_of}
 use Rattle.base.proofs.Places.{behind_at, map_at}
 use Rattle.base.proofs.Turns.{first_none, first_more, first_found}
 use Rattle.model.specs.Tables as model
-use Rattle.job.specs.declared.Clause.{Clause}
 use Rattle.job.specs.declared.Condition.{Condition}
-use Rattle.job.specs.Record.{no_clause}
 use Rattle.job.specs.Meaning.{clause_of, condition_of}
 use Rattle.zone.specs.Zone.{Zone}
-use Rattle.zone.specs.Array.{zone_in}
-use Rattle.solver.specs.Solver.{imposed_all}
 use Rattle.conditions.specs.Meeting.{both}
-use Rattle.conditions.specs.Uses.{LaysPair, Meeting}
-use Rattle.conditions.proofs.Clauses.{nothing_fits, items, item, items_done, item_more, item_of, item_fits}
-use Rattle.conditions.proofs.Meeting.{Paired, pair_nothing, pair_found}
+use Rattle.conditions.proofs.Clauses.{items, item, items_done, item_more, item_of}
 
 -- ---- the clauses of one condition: what is left from clause q on gives o
 module _ (k : Condition) (f : model.Clause → Option Zone) (q : ℕ) {o : Option Zone} (left : first_of (drop q (condition_of k)) f ≡ o) where
@@ -35,24 +28,6 @@ module _ (k : Condition) (f : model.Clause → Option Zone) (q : ℕ) {o : Optio
 
     pub this_clause : {y : Zone} → f (clause_of (item k q)) ≡ some y → o ≡ some y
     this_clause e = first_found f [] (condition_of k) q left (item_more k q h) (rw (item_of k q h) e)
-
--- ---- clause q of one condition, paired with the clause that asks nothing; r and y are what laying both answers and leaves
-module _ {n : ℕ} {z to : List ℕ} {k : Condition} (u : Meeting n z k to) {c : Clause} (is : c ≡ no_clause)
-    {q : ℕ} (h : q < length (items k)) (out : List ℕ) (same : length out ≡ length to) where
-  pub one_asks : LaysPair n z c (item k q) out
-  one_asks = record {
-    in_array = u.in_array;
-    first = rw is (nothing_fits n);
-    second = item_fits k q h u.condition;
-    room = omega (arith, same, u.room);
-  }
-
-  module _ {r : Bool} (y : List ℕ) (laid : Paired n z c (item k q) r y) where
-    pub one_none : r ≡ false → imposed_all (zone_in (n + 1) z) (clause_of (item k q)) ≡ none
-    one_none no_row = rw is at (pair_nothing one_asks laid.0 no_row)
-
-    pub one_found_lem : length y ≡ length out → r ≡ true → imposed_all (zone_in (n + 1) z) (clause_of (item k q)) ≡ some (zone_in (n + 1) y)
-    one_found_lem kept some_row = rw is at (pair_found one_asks laid kept some_row).is
 
 -- ---- pairs of clauses
 

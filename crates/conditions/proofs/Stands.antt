@@ -76,7 +76,7 @@ module _ (bs : List Bounds) (p : Row → Bool) (z : Zone) (s : Stands bs p z) wh
         let l : c.left < length z = omega (arith, s.size) in
         let r : c.right < length z = omega (arith, s.size) in
         answers_left (λ r. obeys r c) (Obeys c) (λ r w. obeys_is r c) (some (tightened z c))
-        (tight_closed z c s.closed l r ok, tight_length z c s.closed l r ok, tight_meets z c s.closed l r ok)
+        (tight_closed z c s.closed l r ok, tight_length z c, tight_meets z c s.closed l r ok)
 
   -- ---- its least row
   pub least_stands : T (within bs (row_of (least_of z))) × T (p (row_of (least_of z)))

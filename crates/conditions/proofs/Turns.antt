@@ -1,7 +1,7 @@
 -- A loop over the clauses of two conditions, which are slices of their records. Assumes nothing.
 use mathlib.Core.Path.{◌≡◌, ap, ◌∙◌}
 use mathlib.Core.Bool.{Bool, true, false}
-use mathlib.Core.List.{List, [], ◌++◌}
+use mathlib.Core.List.{[], ◌++◌}
 use mathlib.Core.Option.{Option, none, some}
 use Prim.Native.Nat.{ℕ, ◌+◌, ◌*◌, ◌<◌, ◌≤◌}
 use native.Mathlib.Nat.{add_assoc, add-zero, zero-mul, suc-mul, mul-le-mul_right, lt_of_lt_of_le, add-lt-add_of_le_of_lt, le_refl}
@@ -12,14 +12,12 @@ use Rattle.base.proofs.Turns.{first_none, first_more, first_found}
 use Rattle.model.specs.Tables as model
 use Rattle.job.specs.declared.Condition.{Condition}
 use Rattle.job.specs.Meaning.{clause_of, condition_of}
-use Rattle.zone.specs.Zone.{Zone}
-use Rattle.zone.specs.Array.{zone_in}
-use Rattle.zone.specs.Uses.{InArray}
+use Rattle.zone.specs.Zone.{Zone, columns_of}
 use Rattle.solver.specs.Solver.{imposed_all}
 use Rattle.conditions.specs.Meeting.{pairs_of, both}
-use Rattle.conditions.specs.Uses.{LaysPair, Searches}
+use Rattle.conditions.specs.Uses.{ClauseFits, Searches}
 use Rattle.conditions.proofs.Clauses.{items, item, item_more, item_of, item_fits}
-use Rattle.conditions.proofs.Meeting.{Paired, pair_nothing, pair_found}
+use Rattle.conditions.proofs.Meeting.{Paired, listed_none, listed_found}
 use Rattle.conditions.proofs.Pairs.{place, place_row, both_length, both_at}
 
 -- what is left of the pairs from clause q of the first condition and clause r of the second on
@@ -64,29 +62,26 @@ module _ (k l : Condition) where
     next : place m q r + 1 ≡ place m q (r + 1)
     next = add_assoc (q * m) r 1
 
-    -- both clauses are laid: s and y are what that answers and leaves in place of `out`
-    module _ {n : ℕ} {z : List ℕ} (u : Searches n z k l) (out : List ℕ) (room : (n + 1) * 33 ≤ length out) where
-      pub turn_asks : LaysPair n z (item k q) (item l r) out
-      turn_asks = record { in_array = u.in_array; first = item_fits k q h u.first; second = item_fits l r g u.second; room = room }
+    -- both clauses fit the zone
+    module _ {z : Zone} (u : Searches z k l) where
+      pub turn_asks : ClauseFits (columns_of z) (item k q) × ClauseFits (columns_of z) (item l r)
+      turn_asks = (item_fits k q h u.first, item_fits l r g u.second)
 
-      module _ {s : Bool} (y : List ℕ) (laid : Paired n z (item k q) (item l r) s y) (kept : length y ≡ length out) where
-        pub turn_in_array : s ≡ true → InArray (n + 1) y
-        turn_in_array some_row = (pair_found turn_asks laid kept some_row).in_array
+    -- and are laid: s and y are what that answers and leaves; f is what is done with the rows that meet both
+    module _ (z : Zone) {s : Bool} {y : Zone} (laid : Paired z (item k q) (item l r) s y)
+        (f : Zone → Option Zone) {o : Option Zone} (left : first_of (turns_left k l q r) (λ c. and_then (imposed_all z c) f) ≡ o) where
+      abbrev by : model.Clause → Option Zone
+      by c = and_then (imposed_all z c) f
 
-        -- f is what is done with the rows that meet both
-        module _ (f : Zone → Option Zone) {o : Option Zone} (left : first_of (turns_left k l q r) (λ c. and_then (imposed_all (zone_in (n + 1) z) c) f) ≡ o) where
-          abbrev by : model.Clause → Option Zone
-          by c = and_then (imposed_all (zone_in (n + 1) z) c) f
+      onward : by (clause_of (item k q) ++ clause_of (item l r)) ≡ none → first_of (turns_left k l q (r + 1)) by ≡ o
+      onward e = rw (← next) (first_more by [] all (place m q r) left more (rw turn_at e))
 
-          onward : by (clause_of (item k q) ++ clause_of (item l r)) ≡ none → first_of (turns_left k l q (r + 1)) by ≡ o
-          onward e = rw (← next) (first_more by [] all (place m q r) left more (rw turn_at e))
+      pub turn_without : s ≡ false → first_of (turns_left k l q (r + 1)) (λ c. and_then (imposed_all z c) f) ≡ o
+      turn_without no_row = onward (then_none f (listed_none z _ laid no_row))
 
-          pub turn_without : s ≡ false → first_of (turns_left k l q (r + 1)) (λ c. and_then (imposed_all (zone_in (n + 1) z) c) f) ≡ o
-          turn_without no_row = onward (then_none f (pair_nothing turn_asks laid.0 no_row))
+      module _ (some_row : s ≡ true) where
+        pub turn_passed : f y ≡ none → first_of (turns_left k l q (r + 1)) (λ c. and_then (imposed_all z c) f) ≡ o
+        turn_passed e = onward (then_some f (listed_found z _ laid some_row) e)
 
-          module _ (some_row : s ≡ true) where
-            pub turn_passed : f (zone_in (n + 1) y) ≡ none → first_of (turns_left k l q (r + 1)) (λ c. and_then (imposed_all (zone_in (n + 1) z) c) f) ≡ o
-            turn_passed e = onward (then_some f (pair_found turn_asks laid kept some_row).is e)
-
-            pub turn_with : {w : Zone} → f (zone_in (n + 1) y) ≡ some w → o ≡ some w
-            turn_with e = first_found by [] all (place m q r) left more (rw turn_at (then_some f (pair_found turn_asks laid kept some_row).is e))
+        pub turn_with : {w : Zone} → f y ≡ some w → o ≡ some w
+        turn_with e = first_found by [] all (place m q r) left more (rw turn_at (then_some f (listed_found z _ laid some_row) e))

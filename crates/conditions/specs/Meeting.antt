@@ -1,5 +1,5 @@
 -- The rows of a zone that meet a condition, or two, clause by clause.
-use Rattle.std.specs.Prelude.{◌≡◌, List, [], ◌∷◌, ◌++◌, map, ℕ, replicate}
+use Rattle.std.specs.Prelude.{◌≡◌, [], ◌∷◌, ◌++◌, map, replicate}
 use Rattle.std.proofs.Math.Option.{Option, some}
 use Rattle.base.specs.Lists.{flat_map}
 use Rattle.base.specs.Options.{and_then, first_of}
@@ -7,7 +7,6 @@ use Rattle.model.specs.Tables as model
 use Rattle.job.specs.declared.Condition.{Condition}
 use Rattle.job.specs.Record.{no_clause}
 use Rattle.zone.specs.Zone.{Zone}
-use Rattle.zone.specs.Array.{zone_in}
 use Rattle.solver.specs.Solver.{imposed_all}
 
 -- what f gives for the rows of the zone that meet a clause of the condition, by the first clause for which it gives something
@@ -33,6 +32,6 @@ always = [] ∷ []
 abbrev pub always_record : Condition
 always_record = record { size = 1; clauses = replicate 4 no_clause }
 
--- a zone of n nodes that was found lies in the array; with none, nothing is said of the array
-abbrev pub Lies : ℕ → Option Zone → List ℕ → Type 0
-Lies n o d = (y : Zone) → o ≡ some y → zone_in n d ≡ y
+-- what was found is the zone d; with none, nothing is said of d
+abbrev pub Lies : Option Zone → Zone → Type 0
+Lies o d = (y : Zone) → o ≡ some y → d ≡ y

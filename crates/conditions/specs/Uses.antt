@@ -1,11 +1,11 @@
 -- What the functions ask of their callers, all of which is code of this repository.
-use Rattle.std.specs.Prelude.{Bool, List, [], ℕ, ◌+◌, ◌*◌, ◌<◌, ◌≤◌, length, get_or, T}
+use Rattle.std.specs.Prelude.{Bool, [], ℕ, ◌<◌, ◌≤◌, get_or, T}
 use Rattle.base.specs.Lists.{all_of}
 use Rattle.model.specs.Tables as model
 use Rattle.job.specs.declared.Clause.{Clause}
 use Rattle.job.specs.declared.Condition.{Condition}
 use Rattle.job.specs.Meaning.{clause_of, condition_of}
-use Rattle.zone.specs.Uses.{InArray}
+use Rattle.zone.specs.Zone.{Zone, columns_of}
 use Rattle.solver.specs.Solver.{comparison_fits}
 
 -- a clause of comparisons of n columns, no more of them than its array holds
@@ -27,26 +27,7 @@ pub record ConditionFits (n : ℕ) (k : Condition) : Type 0 where
   pub small : Small k
   pub fit : T (condition_fits n (condition_of k))
 
--- a zone of n columns, and a clause of comparisons of these
-pub record ImposesClause (n : ℕ) (d : List ℕ) (c : Clause) : Type 0 where
-  pub in_array : InArray (n + 1) d
-  pub clause : ClauseFits n c
-
--- two clauses, with room for another zone
-pub record LaysPair (n : ℕ) (z : List ℕ) (c e : Clause) (to : List ℕ) : Type 0 where
-  pub in_array : InArray (n + 1) z
-  pub first : ClauseFits n c
-  pub second : ClauseFits n e
-  pub room : (n + 1) * 33 ≤ length to
-
--- a condition, with room for another zone
-pub record Meeting (n : ℕ) (z : List ℕ) (k : Condition) (out : List ℕ) : Type 0 where
-  pub in_array : InArray (n + 1) z
-  pub condition : ConditionFits n k
-  pub room : (n + 1) * 33 ≤ length out
-
--- a zone, and two conditions of comparisons of its n columns
-pub record Searches (n : ℕ) (z : List ℕ) (k l : Condition) : Type 0 where
-  pub in_array : InArray (n + 1) z
-  pub first : ConditionFits n k
-  pub second : ConditionFits n l
+-- two conditions of comparisons of a zone's columns
+pub record Searches (z : Zone) (k l : Condition) : Type 0 where
+  pub first : ConditionFits (columns_of z) k
+  pub second : ConditionFits (columns_of z) l

@@ -15,7 +15,7 @@ use Rattle.words.specs.Bias.{bias, biased}
 use Rattle.words.specs.Word.{sign_bit}
 use Rattle.model.specs.declared.Bounds.{Bounds}
 use Rattle.zone.specs.Zone.{boxed}
-use Rattle.zone.specs.Uses.{BoxRoom}
+use Rattle.zone.specs.Uses.{NodeBounds}
 use Rattle.solver.specs.Solver.{nodes, los, his, box_of}
 use Rattle.solver.specs.Uses.{Words, BoundsRoom}
 use Rattle.solver.proofs.Nodes.{nodes_size, nodes_at, box_bounded}
@@ -74,7 +74,7 @@ module _ {bs : List Bounds} {k : ℕ} {low high : List ℕ} (s : Laying bs k low
       high_words = below_more (λ (i : ℕ). mag (get_or (his bs) i (pos 0)) < sign_bit 4) k s.high_words (rw hi_at hi_word);
     }
 
-  module _ {d : List ℕ} (u : BoundsRoom d bs) (past : length bs ≤ k) where
+  module _ {size : ℕ} (u : BoundsRoom size bs) (past : length bs ≤ k) where
     lo_size : length (los bs) ≡ length bs
     lo_size = length-map bs (λ (b : Bounds). b.lo)
 
@@ -87,12 +87,11 @@ module _ {bs : List Bounds} {k : ℕ} {low high : List ℕ} (s : Laying bs k low
     highs_are : take (length bs + 1) high ≡ nodes (his bs)
     highs_are = nodes_end (his bs) s.highs (omega (arith, hi_size)) (omega (arith, hi_size, u.small)) (sym hi_size)
 
-    pub box_room : BoxRoom d (take (length bs + 1) low) (take (length bs + 1) high)
-    box_room = rw (lows_are, highs_are) record {
-      room = omega (arith, nodes_size (los bs), lo_size, u.room);
-      small = omega (arith, nodes_size (los bs), lo_size, u.small);
-      bounds = box_bounded bs u.fit;
-    }
+    pub box_bounds : NodeBounds (take (length bs + 1) low) (take (length bs + 1) high)
+    box_bounds = rw (lows_are, highs_are) (box_bounded bs u.fit)
+
+    pub box_size : length (take (length bs + 1) low) ≡ length bs + 1
+    box_size = rw lows_are (omega (arith, nodes_size (los bs), lo_size))
 
     pub box_is : boxed (take (length bs + 1) low) (take (length bs + 1) high) ≡ box_of bs
     unfolding box_of

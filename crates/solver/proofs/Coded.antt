@@ -7,7 +7,7 @@ use native.Mathlib.Numerals.{add-one}
 use lib.ListN.{length, get_or, length-map}
 use lib.IntN.{ℤ}
 use lib.Signed.{mag}
-use lib.Dec.{ltb, ltb→lt}
+use lib.Dec.{T, ltb, ltb→lt}
 use mir.Facts.{and_yes}
 use borrow.Author.Tests.{ne_eqb}
 use Rattle.base.proofs.Places.{map_at}
@@ -18,10 +18,10 @@ use Rattle.words.specs.Compare.{op_at}
 use Rattle.job.specs.declared.Comparison.{Comparison}
 use Rattle.job.specs.Record.{no_comparison}
 use Rattle.job.specs.Meaning.{side_of, comparison_of}
-use Rattle.zone.specs.Zone.{Zone, level}
+use Rattle.zone.specs.Zone.{Zone, level, columns_of}
 use Rattle.solver.specs.Comparisons.{node_of, added_to, between, against, constraints_of, negations_of}
-use Rattle.solver.specs.Solver.{against_fits, imposed_by, imposed}
-use Rattle.solver.specs.Uses.{ImposesNodes, Imposes}
+use Rattle.solver.specs.Solver.{against_fits, comparison_fits, imposed_by, imposed}
+use Rattle.solver.specs.Uses.{ImposesNodes}
 use Rattle.solver.proofs.Comparisons.{added_some, added_most}
 use Rattle.solver.proofs.Solver.{node_in}
 use Rattle.solver.proofs.Progress.{Next}
@@ -45,14 +45,14 @@ module _ (k : Comparison) {o : Op} {a b w : ℕ} (s : o ≡ op_at k.op) (p : a �
   unfolding imposed constraints_of
   imposed_is z = rw (s, p, q, r, side_node k.right k.number, add-one k.left)
 
-  pub nodes_asked : {n : ℕ} {d : List ℕ} → Imposes n d k → ImposesNodes (n + 1) d (a + 1) b w
-  nodes_asked {n} u =
+  pub nodes_asked : (z : Zone) → T (comparison_fits (columns_of z) (comparison_of k)) → ImposesNodes z (a + 1) b w
+  nodes_asked z fit =
+      let n = columns_of z in
       let side = side_of k.right k.number in
-      let (l, t) = and_yes (ltb k.left n) (against_fits n side) u.fit in
+      let (l, t) = and_yes (ltb k.left n) (against_fits n side) fit in
       record {
-        in_array = u.in_array;
         left_in = omega (arith, ltb→lt k.left n l);
-        right_in = omega (arith, side_node k.right k.number, node_in n side t);
+        right_in = omega (arith, side_node k.right k.number, node_in n side t, ltb→lt k.left n l);
         added_some = rw r (added_some n side t);
         added_most = rw r (added_most n side t);
       }

@@ -3,7 +3,7 @@ use mathlib.Core.Path.{◌≡◌, refl, sym, ap, ◌∙◌}
 use mathlib.Core.Bool.{Bool, true, false, false≢true}
 use mathlib.Core.List.{List, [], ◌∷◌, map}
 use mathlib.Core.Option.{Option, none, some, none-ne-some, some-injective}
-use Prim.Native.Nat.{ℕ, suc, ◌+◌, ◌*◌, ◌<◌, ◌≤◌}
+use Prim.Native.Nat.{ℕ, suc, ◌+◌, ◌<◌}
 use native.Mathlib.Omega.{arith}
 use native.Mathlib.Numerals.{add-one}
 use lib.ListN.{length, get_or, replicate, length-map}
@@ -20,17 +20,14 @@ use Rattle.job.specs.declared.Comparison as given
 use Rattle.job.specs.Meaning.{comparison_of}
 use Rattle.model.specs.declared.Bounds.{Bounds}
 use Rattle.model.specs.Least.{least_row}
-use Rattle.zone.specs.Zone.{Zone, Closed, least_of}
-use Rattle.zone.specs.Array.{zone_in, laid}
-use Rattle.zone.specs.Uses.{InArray}
+use Rattle.zone.specs.Zone.{Zone, Closed, columns_of, least_of}
 use Rattle.zone.proofs.Closed.{least_length, least_meets}
 use Rattle.zone.proofs.Box.{Between, box_rows_lem}
 use Rattle.zone.proofs.Answers.{Answers}
-use Rattle.zone.proofs.Laid.{laid_is, laid_in_array}
 use Rattle.solver.specs.Solver.{bounds_fit, comparison_fits, solvable, nodes, row_of, los, his, box_of, imposed, imposed_all, zone_of, solution}
 use Rattle.solver.specs.Lists.{onward, reached, row_or_zeros}
-use Rattle.solver.specs.Uses.{Words, WordNodes, ImposesAll, LeastRoom, Solves}
-use Rattle.solver.proofs.Nodes.{nodes_size, nodes_at, nodes_length, nodes_closed, box_bounded}
+use Rattle.solver.specs.Uses.{Words, WordNodes, Solves}
+use Rattle.solver.proofs.Nodes.{nodes_size, nodes_at, nodes_length, box_bounded}
 use Rattle.solver.proofs.Solver.{ObeysList, zone_answers, solution_least}
 
 -- where some row meets the list, the zone that is reached is the list's
@@ -44,7 +41,7 @@ reached_is z (k ∷ ks) y e = go (imposed z k) e (λ w q. reached_is w ks y q)
     go (some w) e next = next w e
 
 module _ (bs : List Bounds) (list : List given.Comparison) (row : List ℤ) (u : Solves bs list row)
-    (d : List ℕ) (room : (length bs + 1) * 33 ≤ length d) (e : List ℕ) (boxed : e ≡ laid d (box_of bs)) where
+    (e : Zone) (boxed : e ≡ box_of bs) where
   abbrev ks : List Comparison
   ks = map comparison_of list
 
@@ -55,21 +52,14 @@ module _ (bs : List Bounds) (list : List given.Comparison) (row : List ℤ) (u :
   size : length (box_of bs) ≡ length bs + 1
   size = nodes_length bs u.bounds ∙ sym (add-one (length bs))
 
-  small : length bs + 1 ≤ 33
-  small = omega (arith, u.small)
+  pub imposes : T (all_of (comparison_fits (columns_of e)) (map comparison_of list))
+  imposes =
+      let same : columns_of e ≡ length bs = rw boxed (omega (arith, size)) in
+      rw same u.fit
 
-  box_in_array : InArray (length bs + 1) e
-  box_in_array = rw boxed (laid_in_array (length bs + 1) d (box_of bs) room small (nodes_closed bs u.bounds) size)
-
-  box_zone : zone_in (length bs + 1) e ≡ box_of bs
-  box_zone = rw boxed (laid_is (length bs + 1) d (box_of bs) room small (nodes_closed bs u.bounds) size)
-
-  pub imposes : ImposesAll (length bs) e list
-  imposes = record { in_array = box_in_array; fit = u.fit }
-
-  zone_all : imposed_all (zone_in (length bs + 1) e) ks ≡ zone_of bs ks
+  zone_all : imposed_all e ks ≡ zone_of bs ks
   unfolding zone_of
-  zone_all = rw box_zone
+  zone_all = rw boxed
 
   least_is : (o : Option Zone) → zone_of bs ks ≡ o → least_row bs ks ≡ and_then o (λ z. some (row_of (least_of z)))
   unfolding solution
@@ -80,7 +70,7 @@ module _ (bs : List Bounds) (list : List given.Comparison) (row : List ℤ) (u :
   Written r x = (r ≡ is_some (least_row bs ks)) × (x ≡ row_or_zeros (length bs) (least_row bs ks))
 
   -- no row meets the list
-  pub none_written : is_some (imposed_all (zone_in (length bs + 1) e) ks) ≡ false → (x : List ℤ) → x ≡ replicate (length row) (pos 0) → Written false x
+  pub none_written : is_some (imposed_all e ks) ≡ false → (x : List ℤ) → x ≡ replicate (length row) (pos 0) → Written false x
   none_written f x z = go (zone_of bs ks) refl
     where
       go : (o : Option Zone) → zone_of bs ks ≡ o → Written false x
@@ -88,8 +78,8 @@ module _ (bs : List Bounds) (list : List given.Comparison) (row : List ℤ) (u :
       go none q = rw (least_is none q) (refl, z ∙ rw u.room)
 
   -- some row meets it
-  module _ (f : is_some (imposed_all (zone_in (length bs + 1) e) ks) ≡ true) (g : List ℕ)
-      (left_over : g ≡ laid e (reached (zone_in (length bs + 1) e) ks)) where
+  module _ (f : is_some (imposed_all e ks) ≡ true) (g : Zone)
+      (left_over : g ≡ reached e ks) where
     some_zone : (y : Zone) × (zone_of bs ks ≡ some y) × Answers (box_of bs) (ObeysList ks) (some y)
     some_zone = go (zone_of bs ks) refl (zone_answers bs ks ok)
       where
@@ -107,17 +97,8 @@ module _ (bs : List Bounds) (list : List given.Comparison) (row : List ℤ) (u :
     y_size : length y ≡ length bs + 1
     y_size = some_zone.2.1 ∙ size
 
-    laid_y : g ≡ laid e y
-    laid_y = left_over ∙ ap (laid e) (reached_is (zone_in (length bs + 1) e) ks y (zone_all ∙ some_zone.1))
-
-    in_array : InArray (length row + 1) g
-    in_array = rw (u.room, laid_y) (laid_in_array (length bs + 1) e y box_in_array.room small closed y_size)
-
-    zone_y : zone_in (length row + 1) g ≡ y
-    zone_y =
-        ap (λ (k : ℕ). zone_in (k + 1) g) u.room
-        ∙ ap (zone_in (length bs + 1)) laid_y
-        ∙ laid_is (length bs + 1) e y box_in_array.room small closed y_size
+    is_y : g ≡ y
+    is_y = left_over ∙ reached_is e ks y (zone_all ∙ some_zone.1)
 
     -- its values lie between the bounds, which are of 32 bits
     between : Between (nodes (los bs)) (nodes (his bs)) (least_of y)
@@ -145,8 +126,8 @@ module _ (bs : List Bounds) (list : List given.Comparison) (row : List ℤ) (u :
           omega (arith, a, between.below (suc i) (omega (arith, nodes_size (los bs), lo_size, u.room)), biased_high bias (sign_bit 4) (get_or (his bs) i (pos 0)) (wh i l));
     }
 
-    pub least_room : Words (los bs) → Words (his bs) → LeastRoom g row
-    least_room wl wh = record { in_array = in_array; words = rw zone_y (words wl wh) }
+    pub least_room : Words (los bs) → Words (his bs) → WordNodes (least_of g) row
+    least_room wl wh = rw is_y (words wl wh)
 
-    pub row_written : (x : List ℤ) → x ≡ row_of (least_of (zone_in (length row + 1) g)) → Written true x
-    row_written x q = rw (least_is (some y) some_zone.1) (refl, q ∙ ap (λ (z : Zone). row_of (least_of z)) zone_y)
+    pub row_written : (x : List ℤ) → x ≡ row_of (least_of g) → Written true x
+    row_written x q = rw (least_is (some y) some_zone.1) (refl, q ∙ ap (λ (z : Zone). row_of (least_of z)) is_y)

@@ -13,17 +13,15 @@ use Rattle.base.specs.Options.{and_then, is_some}
 use Rattle.base.proofs.Tests.{T-is}
 use Rattle.zone.specs.declared.Constraint.{Constraint}
 use Rattle.zone.specs.Zone.{Zone, level, Closed, allows, tightened, constrained, kept}
-use Rattle.zone.specs.Array.{zone_in, laid}
-use Rattle.zone.specs.Uses.{Constrains}
-use Rattle.zone.proofs.Array.{zone_length, laid_zone, laid_laid}
-use Rattle.zone.proofs.Laid.{laid_is, laid_in_array}
+use Rattle.zone.specs.Uses.{Joins}
 use Rattle.zone.proofs.Ranges.{allows_is}
-use Rattle.zone.proofs.Closed.{tight_entry, tight_length, tight_closed}
+use Rattle.zone.proofs.Closed.{tight_entry, tight_length}
+use Rattle.zone.proofs.Answers.{kept_length}
 use Rattle.words.specs.declared.Op.{Op}
 use Rattle.words.specs.declared.Op.TheVariants.{Less, AtMost, Equal, AtLeast, More}
 use Rattle.model.specs.Tables.{Comparison}
 use Rattle.solver.specs.declared.Constraints.{Constraints}
-use Rattle.solver.specs.Comparisons.{at_most_by, between}
+use Rattle.solver.specs.Comparisons.{at_most_by, between, list_of, constraints_of}
 use Rattle.solver.specs.Uses.{ImposesNodes}
 use Rattle.solver.specs.Solver.{constrained_by, imposed_by, imposed, imposed_all}
 use Rattle.solver.specs.Lists.{onward, reached}
@@ -72,16 +70,12 @@ some_allows z c = go (allows z c)
     go true = refl
     go false = refl
 
--- a constraint of a zone with n nodes
-abbrev Within : ℕ → Constraint → Type 0
-Within n c = (c.left < n) × (c.right < n) × (c.most ≤ 2 * level)
-
-between_within : (n : ℕ) (o : Op) (a b w : ℕ) → a < n → b < n → 0 < w → w < 2 * level → Within n (between o a b w).first
-between_within n Less a b w l r s m = (l, r, omega arith)
-between_within n AtMost a b w l r s m = (l, r, omega arith)
-between_within n Equal a b w l r s m = (l, r, omega arith)
-between_within n AtLeast a b w l r s m = (r, l, omega arith)
-between_within n More a b w l r s m = (r, l, omega arith)
+between_joins : (z : Zone) (o : Op) (a b w : ℕ) → a < length z → b < length z → 0 < w → w < 2 * level → Joins z (between o a b w).first
+between_joins z Less a b w l r s m = record { left_in = l; right_in = r; most_fits = omega arith }
+between_joins z AtMost a b w l r s m = record { left_in = l; right_in = r; most_fits = omega arith }
+between_joins z Equal a b w l r s m = record { left_in = l; right_in = r; most_fits = omega arith }
+between_joins z AtLeast a b w l r s m = record { left_in = r; right_in = l; most_fits = omega arith }
+between_joins z More a b w l r s m = record { left_in = r; right_in = l; most_fits = omega arith }
 
 -- two constraints are those of "equal"
 between_two : (o : Op) (a b w : ℕ) {c : Constraint} → (between o a b w).second ≡ Some c
@@ -92,22 +86,16 @@ between_two Equal a b w t = (refl, cc)
 between_two AtLeast a b w t = absurd (cc)
 between_two More a b w t = absurd (cc)
 
-module _ (n : ℕ) (d : List ℕ) (o : Op) (a b w : ℕ) (u : ImposesNodes n d a b w) (p : Constraints) (e : p ≡ between o a b w) where
-  abbrev z : Zone
-  z = zone_in n d
+module _ (z : Zone) (o : Op) (a b w : ℕ) (u : ImposesNodes z a b w) (p : Constraints) (e : p ≡ between o a b w) where
+  pub first_joins : Joins z p.first
+  first_joins = rw e (between_joins z o a b w u.left_in u.right_in u.added_some u.added_most)
 
-  first_within : Within n p.first
-  first_within = rw e (between_within n o a b w u.left_in u.right_in u.added_some u.added_most)
-
-  pub first_constrains : Constrains n d p.first
-  first_constrains = let (l, r, m) = first_within in record { in_array = u.in_array; left_in = l; right_in = r; most_fits = m }
-
-  -- what is answered, and left in the array
-  abbrev pub Outcome : Bool → List ℕ → Type 0
-  Outcome r x = (r ≡ is_some (imposed_by z (between o a b w))) × (x ≡ laid d (kept z (imposed_by z (between o a b w))))
+  -- what is answered, and left of the zone
+  abbrev pub Outcome : Bool → Zone → Type 0
+  Outcome r x = (r ≡ is_some (imposed_by z (between o a b w))) × (x ≡ kept z (imposed_by z (between o a b w)))
 
   -- with one constraint
-  pub one_outcome : p.second ≡ None → (r : Bool) (x : List ℕ) → r ≡ allows z p.first → x ≡ laid d (kept z (constrained z p.first)) → Outcome r x
+  pub one_outcome : p.second ≡ None → (r : Bool) (x : Zone) → r ≡ allows z p.first → x ≡ kept z (constrained z p.first) → Outcome r x
   unfolding imposed_by
   one_outcome t r x f g =
       let by : imposed_by z p ≡ constrained z p.first = rw t (then_itself (constrained z p.first)) in
@@ -119,90 +107,71 @@ module _ (n : ℕ) (d : List ℕ) (o : Op) (a b w : ℕ) (u : ImposesNodes n d a
     equal : (p.first ≡ at_most_by a b w) × (c ≡ at_most_by b a (2 * level - w))
     equal = rw e (between_two o a b w (rw e at t))
 
-    second_within : Within n c
-    second_within = rw equal.1 (u.right_in, u.left_in, omega arith)
+    pub second_joins : Joins z c
+    second_joins = rw equal.1 (record { left_in = u.right_in; right_in = u.left_in; most_fits = omega arith })
 
-    pub second_constrains : Constrains n d c
-    second_constrains = let (l, r, m) = second_within in record { in_array = u.in_array; left_in = l; right_in = r; most_fits = m }
+    pub next_joins : Joins (kept z (constrained z p.first)) c
+    next_joins =
+        let j = second_joins in
+        let size = kept_length z p.first in
+        record { left_in = omega (arith, size, j.left_in); right_in = omega (arith, size, j.right_in); most_fits = j.most_fits }
 
-    node : (i : ℕ) → i < n → i < length z
-    node i h = omega (arith, zone_length n d)
-
-    cl : Closed z
-    cl = u.in_array.closed
-
-    none_outcome : constrained_by z (p.first ∷ c ∷ []) ≡ none → Outcome false d
+    none_outcome : constrained_by z (p.first ∷ c ∷ []) ≡ none → Outcome false z
     unfolding imposed_by
     none_outcome q =
         let by : imposed_by z p ≡ none = rw t q in
-        rw (← e, by) (refl, sym (laid_zone n d u.in_array.small))
+        rw (← e, by) (refl, refl)
 
-    -- of which the second can't be met
-    pub second_outcome : allows z c ≡ false → Outcome false d
-    second_outcome q =
-        let (fl, fr, _) = first_within in
-        let (sl, sr, _) = second_within in
-        none_outcome (pair_none z p.first c cl (node _ fl) (node _ fr) (node _ sl) (node _ sr) q)
+    module _ (cl : Closed z) where
+      -- of which the second can't be met
+      pub second_outcome : allows z c ≡ false → Outcome false z
+      second_outcome q =
+          let f = first_joins in
+          let s = second_joins in
+          none_outcome (pair_none z p.first c cl f.left_in f.right_in s.left_in s.right_in q)
 
-    -- or the first
-    pub first_outcome : allows z p.first ≡ false → (x : List ℕ) → x ≡ laid d (kept z (constrained z p.first)) → Outcome false x
-    unfolding constrained
-    first_outcome q x g =
-        let (fl, fr, _) = first_within in
-        let (sl, sr, _) = second_within in
-        let old : x ≡ d = g ∙ rw q (laid_zone n d u.in_array.small) in
-        rw old (none_outcome (pair_first z p.first c cl (node _ fl) (node _ fr) (node _ sl) (node _ sr) q))
-
-    -- or each of which can
-    module _ (f : allows z p.first ≡ true) (x : List ℕ) (g : x ≡ laid d (kept z (constrained z p.first))) where
-      tight : x ≡ laid d (tightened z p.first)
+      -- or the first
+      pub first_outcome : allows z p.first ≡ false → Outcome false (kept z (constrained z p.first))
       unfolding constrained
-      tight = g ∙ rw f
+      first_outcome q =
+          let f = first_joins in
+          let s = second_joins in
+          rw q (none_outcome (pair_first z p.first c cl f.left_in f.right_in s.left_in s.right_in q))
 
-      tight_is_closed : Closed (tightened z p.first)
-      tight_is_closed = let (fl, fr, _) = first_within in tight_closed z p.first cl (node _ fl) (node _ fr) (rw f tt)
-
-      tight_size : length (tightened z p.first) ≡ n
-      tight_size = let (fl, fr, _) = first_within in tight_length z p.first cl (node _ fl) (node _ fr) (rw f tt) ∙ zone_length n d
-
-      zone_is : zone_in n x ≡ tightened z p.first
-      zone_is = rw tight (laid_is n d (tightened z p.first) u.in_array.room u.in_array.small tight_is_closed tight_size)
-
-      pub next_constrains : Constrains n x c
-      next_constrains =
-          let (l, r, m) = second_within in
-          record {
-            in_array = rw tight (laid_in_array n d (tightened z p.first) u.in_array.room u.in_array.small tight_is_closed tight_size);
-            left_in = l;
-            right_in = r;
-            most_fits = m;
-          }
-
-      both_allowed : allows z c ≡ true → T (allows (tightened z p.first) c)
-      both_allowed s =
+      both_allowed : allows z p.first ≡ true → allows z c ≡ true → T (allows (tightened z p.first) c)
+      both_allowed f s =
           rw (equal.0, equal.1)
-          (back_allowed z a b w cl (node a u.left_in) (node b u.right_in) (omega (arith, u.added_most))
+          (back_allowed z a b w cl u.left_in u.right_in (omega (arith, u.added_most))
           (let q : T (allows z p.first) = rw f tt in rw equal.0 at q)
           (let q : T (allows z c) = rw s tt in rw equal.1 at q))
 
-      last_size : T (allows (tightened z p.first) c) → length (tightened (tightened z p.first) c) ≡ n
-      last_size ok =
-          let (l, r, _) = second_within in
-          tight_length (tightened z p.first) c tight_is_closed (omega (arith, tight_size)) (omega (arith, tight_size)) ok ∙ tight_size
-
-      again : T (allows (tightened z p.first) c)
-          → laid (laid d (tightened z p.first)) (tightened (tightened z p.first) c) ≡ laid d (tightened (tightened z p.first) c)
-      again ok = laid_laid d (tightened z p.first) (tightened (tightened z p.first) c) (omega (arith, last_size ok, u.in_array.small)) (tight_size ∙ sym (last_size ok))
-
-      pub both_outcome : allows z c ≡ true → (r : Bool) (y : List ℕ) → r ≡ allows (zone_in n x) c
-          → y ≡ laid x (kept (zone_in n x) (constrained (zone_in n x) c)) → Outcome r y
+      -- or each of which can; x is what is left after the first
+      pub both_outcome : allows z p.first ≡ true → allows z c ≡ true → (x : Zone) → x ≡ kept z (constrained z p.first)
+          → (r : Bool) (y : Zone) → r ≡ allows x c → y ≡ kept x (constrained x c) → Outcome r y
       unfolding imposed_by constrained
-      both_outcome s r y h k =
-          let ok : allows (tightened z p.first) c ≡ true = T-is _ (both_allowed s) in
+      both_outcome f s x left r y h k =
+          let ok : allows (tightened z p.first) c ≡ true = T-is _ (both_allowed f s) in
           let by : imposed_by z p ≡ some (tightened (tightened z p.first) c) = rw (t, f, ok) in
-          rw (← e, by) (h ∙ rw (zone_is, ok), k ∙ rw (zone_is, ok, tight) (again (both_allowed s)))
+          let tight : x ≡ tightened z p.first = left ∙ rw f in
+          rw (← e, by) (h ∙ rw (tight, ok), k ∙ rw (tight, ok))
 
 -- ---- a list, one comparison at a time
+
+-- what is kept of a zone has its nodes
+constrained_length : (z y : Zone) (cs : List Constraint) → length y ≡ length z → length (kept z (constrained_by y cs)) ≡ length z
+unfolding constrained
+constrained_length z y [] e = e
+constrained_length z y (c ∷ cs) e = turn (allows y c) (constrained_length z (tightened y c) cs (tight_length y c ∙ e))
+  where
+    turn : (t : Bool) → length (kept z (constrained_by (tightened y c) cs)) ≡ length z
+        → length (kept z (and_then (cond t (some (tightened y c)) none) (λ x. constrained_by x cs))) ≡ length z
+    turn true done = done
+    turn false done = refl
+
+pub imposed_length : (z : Zone) (k : Comparison) → length (kept z (imposed z k)) ≡ length z
+unfolding imposed imposed_by
+imposed_length z k = constrained_length z z (list_of (constraints_of k)) refl
+
 module _ (z y : Zone) (k : Comparison) (ks : List Comparison) where
   pub all_onward : is_some (imposed z k) ≡ true → y ≡ kept z (imposed z k) → (imposed_all y ks ≡ imposed_all z (k ∷ ks)) × (reached y ks ≡ reached z (k ∷ ks))
   all_onward s e = go (imposed z k) s e

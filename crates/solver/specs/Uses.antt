@@ -7,9 +7,7 @@ use Rattle.words.specs.Word.{sign_bit}
 use Rattle.model.specs.declared.Bounds.{Bounds}
 use Rattle.job.specs.declared.Comparison.{Comparison}
 use Rattle.job.specs.Meaning.{comparison_of}
-use Rattle.zone.specs.Zone.{level, least_of}
-use Rattle.zone.specs.Array.{zone_in}
-use Rattle.zone.specs.Uses.{InArray}
+use Rattle.zone.specs.Zone.{Zone, level}
 use Rattle.solver.specs.Solver.{bounds_fit, comparison_fits}
 
 -- every value is of 32 bits; an i32 slice has no others, but a proof learns it only by reading them
@@ -22,34 +20,18 @@ pub record WordNodes (x : List ℕ) (row : List ℤ) : Type 0 where
   pub low : (i : ℕ) → i < length row → bias ≤ at x (suc i) + sign_bit 4
   pub high : (i : ℕ) → i < length row → at x (suc i) < bias + sign_bit 4
 
--- an array, and bounds of at most 32 columns
-pub record BoundsRoom (d : List ℕ) (bs : List Bounds) : Type 0 where
-  pub room : (length bs + 1) * 33 ≤ length d
+-- bounds of at most 32 columns, and room for a zone of so many
+pub record BoundsRoom (size : ℕ) (bs : List Bounds) : Type 0 where
+  pub room : (length bs + 1) * 33 ≤ size
   pub small : length bs ≤ 32
   pub fit : T (all_of bounds_fit bs)
 
 -- two nodes of a zone, and what is added to the second
-pub record ImposesNodes (n : ℕ) (d : List ℕ) (a b added : ℕ) : Type 0 where
-  pub in_array : InArray n d
-  pub left_in : a < n
-  pub right_in : b < n
+pub record ImposesNodes (z : Zone) (a b added : ℕ) : Type 0 where
+  pub left_in : a < length z
+  pub right_in : b < length z
   pub added_some : 0 < added
   pub added_most : added < 2 * level
-
--- a zone of n columns, and a comparison of these
-pub record Imposes (n : ℕ) (d : List ℕ) (k : Comparison) : Type 0 where
-  pub in_array : InArray (n + 1) d
-  pub fit : T (comparison_fits n (comparison_of k))
-
--- a zone of n columns, and comparisons of these
-pub record ImposesAll (n : ℕ) (d : List ℕ) (list : List Comparison) : Type 0 where
-  pub in_array : InArray (n + 1) d
-  pub fit : T (all_of (comparison_fits n) (map comparison_of list))
-
--- a zone whose least row is of 32 bits, and room for it
-pub record LeastRoom (d : List ℕ) (row : List ℤ) : Type 0 where
-  pub in_array : InArray (length row + 1) d
-  pub words : WordNodes (least_of (zone_in (length row + 1) d)) row
 
 -- bounds, comparisons of their columns, and room for a row
 pub record Solves (bs : List Bounds) (list : List Comparison) (row : List ℤ) : Type 0 where

@@ -1,13 +1,13 @@
 // Lists of comparisons as zones: node 0 stands for the constant zero, node c + 1 for column c, and values are biased.
 #![tactic(auto)]
 
-ghost use Rattle.std.specs.Prelude.{◌≡◌, ◌+◌, ◌*◌, ◌<◌, length, map};
+ghost use Rattle.std.specs.Prelude.{◌≡◌, ◌*◌, ◌<◌, T, length, map};
+ghost use Rattle.base.specs.Lists.{all_of};
 ghost use Rattle.base.specs.Options.{is_some};
 ghost use Rattle.model.specs.Least.{least_row};
-ghost use Rattle.zone.specs.Zone.{level, kept, least_of};
-ghost use Rattle.zone.specs.Array.{zone_in, laid};
-ghost use Rattle.solver.specs.Solver.{los, his, row_of, box_of, imposed_by, imposed, imposed_all};
-ghost use Rattle.solver.specs.Uses.{Words, WordNodes, BoundsRoom, ImposesNodes, Imposes, ImposesAll, LeastRoom, Solves};
+ghost use Rattle.zone.specs.Zone.{level, columns_of, kept, least_of};
+ghost use Rattle.solver.specs.Solver.{comparison_fits, los, his, row_of, box_of, imposed_by, imposed, imposed_all};
+ghost use Rattle.solver.specs.Uses.{Words, WordNodes, BoundsRoom, ImposesNodes, Solves};
 ghost use Rattle.solver.specs.Comparisons.{added_to, at_most_by, one, between, against, negations_of};
 ghost use Rattle.job.specs.Meaning.{side_of, comparison_of};
 ghost use Rattle.solver.specs.Lists.{reached, row_or_zeros};
@@ -15,7 +15,7 @@ ghost use Rattle.solver.specs.Lists.{reached, row_or_zeros};
 use job::Comparison;
 use model::Bounds;
 use words::Op;
-use zone::Constraint;
+use zone::{Constraint, Zone};
 
 // What a comparison comes to: one constraint, or two.
 #[derive(Clone, Copy, PartialEq, Eq)]
@@ -89,10 +89,10 @@ fn from_nodes(x: &[u64], row: &mut [i32])
     }
 }
 
-// The zone of the rows within bounds.
-pub fn set_bounds(d: &mut [u64], bounds: &[Bounds])
-    requires { BoundsRoom d.old bounds.now }
-    ensures zone { d.new ≡ laid d.old (box_of bounds.now) }
+// The zone of the rows within bounds, in place of what was there.
+pub fn set_bounds<const N: usize>(z: &mut Zone<N>, bounds: &[Bounds])
+    requires { BoundsRoom N bounds.now }
+    ensures zone { z.new ≡ box_of bounds.now }
     ensures words { Words (los bounds.now) × Words (his bounds.now) }
 {
     let n = bounds.len() + 1;
@@ -103,28 +103,28 @@ pub fn set_bounds(d: &mut [u64], bounds: &[Bounds])
         low[i + 1] = words::to_biased(b.lo);
         high[i + 1] = words::to_biased(b.hi);
     }
-    zone::set_box(&mut *d, &low[..n], &high[..n]);
+    z.set_box(&low[..n], &high[..n]);
 }
 
 // Keeps the rows in which node a compares by op with node b and what is added to it; where there are none it says so, and leaves the zone
 // as it is. That is why both constraints of "equal" are looked at before the first is set.
-fn impose_nodes(d: &mut [u64], n: usize, op: Op, a: usize, b: usize, added: u64) -> bool
-    requires { ImposesNodes n d.old a b added }
-    ensures answer { result ≡ is_some (imposed_by (zone_in n d.old) (between op a b added)) }
-    ensures zone { d.new ≡ laid d.old (kept (zone_in n d.old) (imposed_by (zone_in n d.old) (between op a b added))) }
+fn impose_nodes<const N: usize>(z: &mut Zone<N>, op: Op, a: usize, b: usize, added: u64) -> bool
+    requires { ImposesNodes z.old a b added }
+    ensures answer { result ≡ is_some (imposed_by z.old (between op a b added)) }
+    ensures zone { z.new ≡ kept z.old (imposed_by z.old (between op a b added)) }
 {
     let p = between(op, a, b, added);
     let first = p.first;
     let Some(second) = p.second else {
-        return zone::constrain(&mut *d, n, first);
+        return z.constrain(first);
     };
-    if !zone::allows(&*d, n, second) {
+    if !z.allows(second) {
         return false;
     }
-    if !zone::constrain(&mut *d, n, first) {
+    if !z.constrain(first) {
         return false;
     }
-    zone::constrain(&mut *d, n, second)
+    z.constrain(second)
 }
 
 // What is added to the right node of a comparison: the number, where that node is 0.
@@ -152,15 +152,14 @@ pub fn negations(k: Comparison) -> Constraints
 }
 
 // Keeps the rows that meet a comparison; where there are none it says so, and leaves the zone as it is.
-pub fn impose(d: &mut [u64], columns: usize, k: Comparison) -> bool
-    requires { Imposes columns d.old k }
-    ensures answer { result ≡ is_some (imposed (zone_in (columns + 1) d.old) (comparison_of k)) }
-    ensures zone { d.new ≡ laid d.old (kept (zone_in (columns + 1) d.old) (imposed (zone_in (columns + 1) d.old) (comparison_of k))) }
+pub fn impose<const N: usize>(z: &mut Zone<N>, k: Comparison) -> bool
+    requires { T (comparison_fits (columns_of z.old) (comparison_of k)) }
+    ensures answer { result ≡ is_some (imposed z.old (comparison_of k)) }
+    ensures zone { z.new ≡ kept z.old (imposed z.old (comparison_of k)) }
 {
     let added = added_to(k.right, k.number);
     impose_nodes(
-        &mut *d,
-        columns + 1,
+        z,
         Op::at(k.op),
         usize::from(k.left) + 1,
         usize::from(k.right),
@@ -169,13 +168,13 @@ pub fn impose(d: &mut [u64], columns: usize, k: Comparison) -> bool
 }
 
 // Imposes a list of comparisons, one after the other, up to the first that leaves no row.
-pub fn impose_all(d: &mut [u64], columns: usize, list: &[Comparison]) -> bool
-    requires { ImposesAll columns d.old list.now }
-    ensures answer { result ≡ is_some (imposed_all (zone_in (columns + 1) d.old) (map comparison_of list.now)) }
-    ensures zone { d.new ≡ laid d.old (reached (zone_in (columns + 1) d.old) (map comparison_of list.now)) }
+pub fn impose_all<const N: usize>(z: &mut Zone<N>, list: &[Comparison]) -> bool
+    requires { T (all_of (comparison_fits (columns_of z.old)) (map comparison_of list.now)) }
+    ensures answer { result ≡ is_some (imposed_all z.old (map comparison_of list.now)) }
+    ensures zone { z.new ≡ reached z.old (map comparison_of list.now) }
 {
     for k in list {
-        if !impose(&mut *d, columns, *k) {
+        if !impose(z, *k) {
             return false;
         }
     }
@@ -183,14 +182,14 @@ pub fn impose_all(d: &mut [u64], columns: usize, list: &[Comparison]) -> bool
 }
 
 // The least row of a zone whose values are of 32 bits.
-pub fn read_least(d: &[u64], row: &mut [i32])
-    requires { LeastRoom d.now row.old }
-    ensures { row.new ≡ row_of (least_of (zone_in (length row.old + 1) d.now)) }
+pub fn read_least<const N: usize>(z: &Zone<N>, row: &mut [i32])
+    requires { WordNodes (least_of z.now) row.old }
+    ensures { row.new ≡ row_of (least_of z.now) }
 {
-    let n = row.len() + 1;
+    let n = z.nodes();
     let mut x = [0u64; zone::WIDTH];
-    zone::least(d, n, &mut x[..n]);
-    from_nodes(&x[..n], &mut *row);
+    z.least(&mut x[..n]);
+    from_nodes(&x[..n], row);
 }
 
 // The row with the least value in every column among the rows within bounds that meet a list of comparisons, or none, with zeros in its
@@ -200,10 +199,10 @@ pub fn least_row(bounds: &[Bounds], list: &[Comparison], row: &mut [i32]) -> boo
     ensures answer { result ≡ is_some (least_row bounds.now (map comparison_of list.now)) }
     ensures row { row.new ≡ row_or_zeros (length bounds.now) (least_row bounds.now (map comparison_of list.now)) }
 {
-    let mut d = [0u64; zone::SIZE];
-    set_bounds(&mut d, bounds);
-    if impose_all(&mut d, bounds.len(), list) {
-        read_least(&d, &mut *row);
+    let mut z: Zone<{ zone::SIZE }> = Zone::new();
+    set_bounds(&mut z, bounds);
+    if impose_all(&mut z, list) {
+        read_least(&z, row);
         return true;
     }
     row.fill(0);

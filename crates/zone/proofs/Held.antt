@@ -1,36 +1,21 @@
 -- A zone that lies in entries, and what is asked of it by its nodes, as the functions over entries ask it. Assumes nothing.
 use mathlib.Core.Path.{◌≡◌, refl, sym, ◌∙◌, ap}
-use mathlib.Core.Bool.{Bool, true, false}
 use mathlib.Core.List.{List, [], ◌∷◌}
 use Prim.Native.Nat.{ℕ, zero, suc, ◌*◌, ◌<◌, ◌≤◌}
 use native.Mathlib.Omega.{arith}
-use lib.Dec.{T}
 use lib.ListN.{length, set, replicate}
 use Rattle.std.proofs.lemmas.List.{length-set, length-replicate, get_or-set_same}
 use Rattle.base.specs.Lists.{at}
 use Rattle.words.specs.Bias.{bias}
 use Rattle.zone.specs.Matrix.{matrix}
 use Rattle.zone.specs.declared.Constraint.{Constraint}
-use Rattle.zone.specs.Zone.{Zone, Closed, level, point, boxed, allows, constrained, kept}
+use Rattle.zone.specs.Zone.{Zone, Closed, level, point, boxed, constrained, kept}
 use Rattle.zone.specs.Array.{zone_in, laid, copied}
 use Rattle.zone.specs.Uses.{InArray, Joins, Follows, Given, NodeBounds, TwoNodes, Room, Constrains, FollowsIn, Extends}
 use Rattle.zone.proofs.Array.{zone_length, zone_copied}
 use Rattle.zone.proofs.Box.{box_length, box_closed}
-use Rattle.zone.proofs.Closed.{tight_length, tight_closed}
+use Rattle.zone.proofs.Answers.{kept_length, kept_closed}
 use Rattle.zone.proofs.Laid.{laid_is, laid_in_array, copied_in_array}
-
--- ---- What is kept of a closed zone is closed
-
-pub kept_closed : (z : Zone) (c : Constraint) → Closed z → Joins z c
-    → Closed (kept z (constrained z c)) × (length (kept z (constrained z c)) ≡ length z)
-unfolding constrained
-kept_closed z c cl b = go (allows z c) refl
-  where
-    go : (t : Bool) → allows z c ≡ t
-        → Closed (kept z (constrained z c)) × (length (kept z (constrained z c)) ≡ length z)
-    go true e = let ok : T (allows z c) = rw e tt in
-        rw e (tight_closed z c cl b.left_in b.right_in ok, tight_length z c cl b.left_in b.right_in ok)
-    go false e = rw e (cl, refl)
 
 module _ {n : ℕ} {d : List ℕ} {z : Zone} (u : InArray n d) (view : zone_in n d ≡ z) where
   pub nodes_are : n ≡ length z
@@ -64,14 +49,17 @@ module _ {n : ℕ} {d : List ℕ} {z : Zone} (u : InArray n d) (view : zone_in n
   -- ---- What is left
 
   module _ {c : Constraint} {e : List ℕ} (b : Joins z c) (done : e ≡ laid d (kept (zone_in n d) (constrained (zone_in n d) c))) where
-    stands : Closed (kept z (constrained z c)) × (length (kept z (constrained z c)) ≡ n)
-    stands = let k = kept_closed z c (rw view at u.closed) b in (k.0, k.1 ∙ sym nodes_are)
+    closed : Closed (kept z (constrained z c))
+    closed = kept_closed z c (rw view at u.closed) b
+
+    size : length (kept z (constrained z c)) ≡ n
+    size = kept_length z c ∙ sym nodes_are
 
     pub kept_in_array : InArray n e
-    kept_in_array = rw (done, view) (laid_in_array n d _ u.room u.small stands.0 stands.1)
+    kept_in_array = rw (done, view) (laid_in_array n d _ u.room u.small closed size)
 
     pub kept_is : zone_in n e ≡ kept z (constrained z c)
-    kept_is = rw (done, view) (laid_is n d _ u.room u.small stands.0 stands.1)
+    kept_is = rw (done, view) (laid_is n d _ u.room u.small closed size)
 
   module _ (to : List ℕ) {e : List ℕ} (room : n * 33 ≤ length to) (done : e ≡ copied n d to) where
     pub copy_in_array : InArray n e
@@ -104,6 +92,7 @@ alone = record {
   where
     refl_le : (n : ℕ) → n ≤ n
     refl_le n = omega arith
+
     limit : (i : ℕ) → i < 1 → at (bias ∷ []) i ≤ 2 * bias
     limit zero h = omega arith
     limit (suc i) h = omega arith

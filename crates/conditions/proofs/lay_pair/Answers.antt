@@ -1,21 +1,26 @@
--- `conditions::lay_pair` meets its contract. Assumes nothing.
-use Rattle.conditions.proofs.Meeting.{pair_copies, first_asks, pair_none, second_asks, pair_second}
+use mathlib.Core.Path.{◌∙◌}
+use borrow.Author.Rules.{rules}
+use Rattle.job.specs.Meaning.{clause_of}
+use Rattle.conditions.proofs.Meeting.{listed_in, pair_none, pair_second, second_asks}
 use Rattle.conditions.proofs.lay_pair.Goals as goal
 
-pub copy-requires : goal.copy-requires
-copy-requires c = pair_copies c.requires
+pub impose_clause-requires-then-impose_clause : goal.impose_clause-requires-then-impose_clause
+impose_clause-requires-then-impose_clause g c =
+    let told = c.impose_clause.ensures in
+    let first = listed_in c.args.z.now (clause_of c.args.c.now) c.copy_from.ensures told.answer told.zone in
+    (search rules, second_asks _ _ c.args.e.now first c.requires.1)
 
-pub impose_clause-requires : goal.impose_clause-requires
-impose_clause-requires c = first_asks c.requires c.copy.ensures
+pub returns-then-impose_clause : goal.returns-then-impose_clause
+returns-then-impose_clause g c =
+    let told = c.impose_clause.ensures in
+    let first = listed_in c.args.z.now (clause_of c.args.c.now) c.copy_from.ensures told.answer told.zone in
+    let second = c.impose_clause-then-impose_clause.ensures in
+    let r = pair_second _ c.args.c.now c.args.e.now first c.if-impose_clause.true (second.answer, second.zone) in
+    record { answer = r.0; zone = r.1 }
 
-pub returns-then-not-impose_clause : goal.returns-then-not-impose_clause
-returns-then-not-impose_clause c = let r = pair_none c.requires c.copy.ensures c.impose_clause.ensures.answer c.impose_clause.ensures.zone
-    c.if-not-impose_clause.true in record { answer = r.0; zone = r.1 }
-
-pub impose_clause-requires-2 : goal.impose_clause-requires-2
-impose_clause-requires-2 c = second_asks c.requires c.copy.ensures c.impose_clause.ensures.answer c.impose_clause.ensures.zone
-
-pub returns : goal.returns
-returns c = let r = pair_second c.requires c.copy.ensures c.impose_clause.ensures.answer c.impose_clause.ensures.zone
-    c.if-not-impose_clause.false (c.impose_clause-2.ensures.answer, c.impose_clause-2.ensures.zone) in record
-    { answer = r.0; zone = r.1 }
+pub returns-else-impose_clause : goal.returns-else-impose_clause
+returns-else-impose_clause g c =
+    let told = c.impose_clause.ensures in
+    let first = listed_in c.args.z.now (clause_of c.args.c.now) c.copy_from.ensures told.answer told.zone in
+    let r = pair_none _ c.args.c.now c.args.e.now first c.if-impose_clause.false in
+    record { answer = c.if-impose_clause.false ∙ r.0; zone = r.1 }

@@ -5,4 +5,4 @@ use Rattle.solver.proofs.Progress.{Progress}
 use Rattle.solver.proofs.impose_all.Given as goal
 
 abbrev pub invariant-loop-k : goal.invariant-loop-k
-invariant-loop-k l = Progress l.columns (map comparison_of l.list) l.initial.d l.k-index l.d
+invariant-loop-k g l = Progress (map comparison_of l.list) l.initial.z l.k-index l.z
