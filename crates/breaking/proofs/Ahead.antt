@@ -19,25 +19,17 @@ use Rattle.breaking.proofs.Clauses.{order_length, order_at}
 
 -- ---- The ways of one clause; none stands for what is past the end
 
-pub after_asks : {n : ℕ} {d : List ℕ} {c : Constraint} {ws : List Constraint} (none : Constraint) {i : ℕ} → LooksAfter n d c ws → i < length ws
-    → Follows n d c (get_or ws i none)
+pub after_asks : {z : Zone} {c : Constraint} {ws : List Constraint} (none : Constraint) {i : ℕ} → LooksAfter z c ws → i < length ws
+    → Follows z c (get_or ws i none)
 after_asks {ws = ws} none {i} u more =
-    let fits = u.ways (get_or ws i none) (element ws i none more) in
-    record {
-      first = u.first;
-      second = record {
-        in_array = u.first.asked.in_array;
-        left_in = fits.left_in;
-        right_in = fits.right_in;
-        most_fits = fits.most_fits;
-      };
-    }
+    record { first = u.way; allowed = u.allowed; second = u.ways (get_or ws i none) (element ws i none more) }
 
 -- ---- The clauses from place i of the order on; r is what the look at the clause there says
 
-pub ahead_asks : {n : ℕ} {d : List ℕ} {c : Constraint} {k : Choices} {o : List ℕ} {i : ℕ} → LooksAhead n d c k o → i < length o
-    → LooksAfter n d c (ways_in (clause_ways k (at o i)))
-ahead_asks {o = o} {i} u h = record { first = u.first; ways = u.choices.each (at o i) (u.rest i h) }
+pub ahead_asks : {z : Zone} {c : Constraint} {k : Choices} {o : List ℕ} {i : ℕ} → LooksAhead z c k o → i < length o
+    → LooksAfter z c (ways_in (clause_ways k (at o i)))
+ahead_asks {o = o} {i} u h =
+    record { way = u.chosen.way; allowed = u.allowed; ways = u.chosen.choices.each (at o i) (u.chosen.rest i h) }
 
 module _ (z : Zone) (k : Choices) (o : List ℕ) (i : ℕ) {b : Bool} (left : all_of (breakable z) (drop i (in_order o (choices_in k))) ≡ b) where
   module _ {r : Bool} (here : i < length o) (look : r ≡ breakable z (ways_in (clause_ways k (at o i)))) where

@@ -29,7 +29,7 @@ use Rattle.conditions.proofs.Stands.{Stands, obeys, obeys_is, obeyed_allows, way
 use Rattle.conditions.proofs.Sought.{Sought, then_sought}
 use Rattle.breaking.specs.Breaking.{ways_of, free, choices_of, breakable, chosen}
 use Rattle.breaking.specs.Places.{in_order}
-use Rattle.breaking.specs.Uses.{Fits}
+use Rattle.zone.specs.Uses.{Joins}
 use Rattle.breaking.proofs.Once.{any_ways}
 use Rattle.breaking.proofs.Sizes.{spare}
 
@@ -87,7 +87,7 @@ module _ (bs : List Bounds) (fit : T (all_of bounds_fit bs)) (r : Row) (w : T (w
 module _ (bs : List Bounds) where
   -- the ways of each clause are constraints between the nodes
   abbrev pub AllFit : List (List Constraint) → Type 0
-  AllFit k = (ws : List Constraint) → ws ∈ k → (c : Constraint) → c ∈ ws → Fits (suc (length bs)) c
+  AllFit k = (ws : List Constraint) → ws ∈ k → (c : Constraint) → c ∈ ws → Joins (suc (length bs)) c
 
   -- also in another order, where a clause that isn't there has no way
   pub order_fits : (o : List ℕ) (k : List (List Constraint)) → AllFit k → AllFit (in_order o k)
@@ -107,7 +107,7 @@ module _ (bs : List Bounds) where
       let f = fits ws m c i in
       has_any (allows z) i (obeyed_allows bs p z s c f.left_in f.right_in r w h o))
 
-  pub chosen_sought : (p : Row → Bool) (z : Zone) → Stands bs p z → (c : Constraint) → Fits (suc (length bs)) c
+  pub chosen_sought : (p : Row → Bool) (z : Zone) → Stands bs p z → (c : Constraint) → Joins (suc (length bs)) c
       → (k : List (List Constraint)) → AllFit k
       → (f : Zone → Option Zone) → ((q : Row → Bool) (y : Zone) → Stands bs q y → Sought bs q (λ r. breaks r k) (f y))
       → Sought bs p (λ r. obeys r c && breaks r k) (and_then (chosen z c k) f)

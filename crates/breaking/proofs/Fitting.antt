@@ -25,7 +25,8 @@ use Rattle.conditions.specs.Uses.{condition_fits}
 use Rattle.breaking.specs.declared.Choices.{Choices}
 use Rattle.breaking.specs.Breaking.{ways_of, free, choices_of}
 use Rattle.breaking.specs.Places.{choices_in}
-use Rattle.breaking.specs.Uses.{Fits, FewWays, ChoicesFit}
+use Rattle.zone.specs.Uses.{Joins}
+use Rattle.breaking.specs.Uses.{FewWays, ChoicesFit}
 use Rattle.breaking.proofs.Clauses.{choices_at}
 use Rattle.breaking.proofs.Once.{ways_each}
 use Rattle.breaking.proofs.Sizes.{spare, four_choices}
@@ -33,16 +34,16 @@ use Rattle.breaking.proofs.Sizes.{spare, four_choices}
 -- ---- The ways of a comparison
 
 module _ (n : ℕ) (a b w : ℕ) (ha : a < n) (hb : b < n) (hw : w < 2 * level) where
-  forth : {m : ℕ} → m ≤ 2 * level → Fits n (record { left = a; right = b; most = m })
+  forth : {m : ℕ} → m ≤ 2 * level → Joins n (record { left = a; right = b; most = m })
   forth h = record { left_in = ha; right_in = hb; most_fits = h }
 
-  back : {m : ℕ} → m ≤ 2 * level → Fits n (record { left = b; right = a; most = m })
+  back : {m : ℕ} → m ≤ 2 * level → Joins n (record { left = b; right = a; most = m })
   back h = record { left_in = hb; right_in = ha; most_fits = h }
 
-  one_fits : {c : Constraint} → Fits n c → (d : Constraint) → d ∈ (c ∷ []) → Fits n d
+  one_fits : {c : Constraint} → Joins n c → (d : Constraint) → d ∈ (c ∷ []) → Joins n d
   one_fits f d m = rw (Memᴰ.eq_of_singleton m) f
 
-  against_fit : (o : Op) → (d : Constraint) → d ∈ list_of (against o a b w) → Fits n d
+  against_fit : (o : Op) → (d : Constraint) → d ∈ list_of (against o a b w) → Joins n d
   against_fit Less d m = one_fits (back (omega arith)) d m
   against_fit AtMost d m = one_fits (back (omega arith)) d m
   against_fit Equal d (Memᴰ.head e) = rw e (forth (omega arith))
@@ -51,7 +52,7 @@ module _ (n : ℕ) (a b w : ℕ) (ha : a < n) (hb : b < n) (hw : w < 2 * level) 
   against_fit More d m = one_fits (forth (omega arith)) d m
 
 module _ (n : ℕ) where
-  negations_fit : (k : Comparison) → T (comparison_fits n k) → (d : Constraint) → d ∈ list_of (negations_of k) → Fits (suc n) d
+  negations_fit : (k : Comparison) → T (comparison_fits n k) → (d : Constraint) → d ∈ list_of (negations_of k) → Joins (suc n) d
   unfolding negations_of
   negations_fit k f =
       let (l, t) = and_yes (ltb k.left n) (against_fits n k.right) f in
@@ -66,15 +67,15 @@ module _ (n : ℕ) where
   padding (suc i) (Memᴰ.tail m) = padding i m
 
   pub every_way_fits : (k : Condition) → T (condition_fits n k) → (ws : List Constraint) → ws ∈ choices_of k
-      → (c : Constraint) → c ∈ ws → Fits (suc n) c
+      → (c : Constraint) → c ∈ ws → Joins (suc n) c
   unfolding choices_of
   every_way_fits k f ws m c i = ⊎_elim
       (λ h.
       let (d, g, e) = Memᴰ.of_map ways_of k h in
       let fits = all_has (all_of (comparison_fits n)) g f in
-      ways_each (Fits (suc n)) d (λ k l. negations_fit k (all_has (comparison_fits n) l fits)) c (rw e i))
+      ways_each (Joins (suc n)) d (λ k l. negations_fit k (all_has (comparison_fits n) l fits)) c (rw e i))
       (λ h.
-      let any : Fits (suc n) free = record { left_in = omega arith; right_in = omega arith; most_fits = omega arith } in
+      let any : Joins (suc n) free = record { left_in = omega arith; right_in = omega arith; most_fits = omega arith } in
       rw (Memᴰ.eq_of_singleton (subst (λ (ws : List Constraint). c ∈ ws) (padding (4 - length (map ways_of k)) h) i)) any)
       (Memᴰ.append_cases (map ways_of k) m)
 

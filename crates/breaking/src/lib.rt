@@ -2,12 +2,11 @@
 // still to be broken.
 #![tactic(auto)]
 
-ghost use Rattle.std.specs.Prelude.{◌≡◌, ℕ, ◌+◌, ◌<◌, ◌≤◌, length, take};
+ghost use Rattle.std.specs.Prelude.{◌≡◌, ◌+◌, ◌<◌, ◌≤◌, length, take};
 ghost use Rattle.base.specs.Lists.{all_of};
 ghost use Rattle.base.specs.Options.{is_some};
 ghost use Rattle.job.specs.Meaning.{clause_of, condition_of};
 ghost use Rattle.zone.specs.Zone.{tightened};
-ghost use Rattle.zone.specs.Array.{zone_in};
 ghost use Rattle.conditions.specs.Meeting.{Lies};
 ghost use Rattle.conditions.specs.Uses.{Small};
 ghost use Rattle.breaking.specs.Breaking.{with_way, ways_of, choices_of, breakable, chosen};
@@ -15,7 +14,7 @@ ghost use Rattle.breaking.specs.Places.{ways_in, choices_in, in_order};
 ghost use Rattle.breaking.specs.Uses.{FewWays, PutsWays, LooksAfter, LooksAhead, Chooses};
 
 use job::{Clause, Condition, Job};
-use zone::Constraint;
+use zone::{Constraint, Zone};
 
 // The ways in which one clause is broken, the first `count` of a list: a row breaks it where it obeys one of these constraints. A
 // comparison fails in two ways at most.
@@ -106,12 +105,12 @@ pub fn put_choices(k: &Condition, choices: &mut Choices)
 // ---- Looks ahead
 
 // Whether some row of the zone breaks a clause, once a constraint more is obeyed.
-fn breakable_after(d: &[u64], n: usize, c: Constraint, ways: &[Constraint]) -> bool
-    requires { LooksAfter n d.now c ways.now }
-    ensures { result ≡ breakable (tightened (zone_in n d.now) c) ways.now }
+fn breakable_after<const N: usize>(z: &Zone<N>, c: Constraint, ways: &[Constraint]) -> bool
+    requires { LooksAfter z.now c ways.now }
+    ensures { result ≡ breakable (tightened z.now c) ways.now }
 {
     for e in ways {
-        if zone::allows_after(d, n, c, *e) {
+        if z.allows_after(c, *e) {
             return true;
         }
     }
@@ -119,39 +118,35 @@ fn breakable_after(d: &[u64], n: usize, c: Constraint, ways: &[Constraint]) -> b
 }
 
 // Looks ahead: whether each clause that is still to be broken could then be broken.
-fn open_after(d: &[u64], n: usize, c: Constraint, k: &Choices, rest: &[usize]) -> bool
-    requires { LooksAhead n d.now c k.now rest.now }
-    ensures { result ≡ all_of (breakable (tightened (zone_in n d.now) c)) (in_order rest.now (choices_in k.now)) }
+fn open_after<const N: usize>(z: &Zone<N>, c: Constraint, k: &Choices, rest: &[usize]) -> bool
+    requires { LooksAhead z.now c k.now rest.now }
+    ensures { result ≡ all_of (breakable (tightened z.now c)) (in_order rest.now (choices_in k.now)) }
 {
     for q in rest {
-        if !breakable_after(d, n, c, k.ways[*q].as_slice()) {
+        if !breakable_after(z, c, k.ways[*q].as_slice()) {
             return false;
         }
     }
     true
 }
 
-// Lays the rows of a zone that obey the constraint too into another array, unless there are none, or some clause that is still to be
+// Lays the rows of a zone that obey the constraint too into another, unless there are none, or some clause that is still to be
 // broken can't be broken then. Nothing is copied before that is known.
-pub fn choose(
-    from: &[u64],
-    to: &mut [u64],
-    n: usize,
+pub fn choose<const N: usize>(
+    z: &Zone<N>,
+    to: &mut Zone<N>,
     c: Constraint,
     k: &Choices,
     rest: &[usize],
 ) -> bool
-    requires { Chooses n from.now to.old c k.now rest.now }
-    ensures answer { result ≡ is_some (chosen (zone_in n from.now) c (in_order rest.now (choices_in k.now))) }
-    ensures zone { Lies n (chosen (zone_in n from.now) c (in_order rest.now (choices_in k.now))) to.new }
+    requires { Chooses z.now c k.now rest.now }
+    ensures answer { result ≡ is_some (chosen z.now c (in_order rest.now (choices_in k.now))) }
+    ensures zone { Lies (chosen z.now c (in_order rest.now (choices_in k.now))) to.new }
 {
-    if !zone::allows(from, n, c) {
+    if !z.allows(c) || !open_after(z, c, k, rest) {
         return false;
     }
-    if !open_after(from, n, c, k, rest) {
-        return false;
-    }
-    zone::copy(from, &mut *to, n);
-    zone::constrain(&mut *to, n, c);
+    to.copy_from(z);
+    to.constrain(c);
     true
 }

@@ -70,7 +70,7 @@ some_allows z c = go (allows z c)
     go true = refl
     go false = refl
 
-between_joins : (z : Zone) (o : Op) (a b w : ℕ) → a < length z → b < length z → 0 < w → w < 2 * level → Joins z (between o a b w).first
+between_joins : (z : Zone) (o : Op) (a b w : ℕ) → a < length z → b < length z → 0 < w → w < 2 * level → Joins (length z) (between o a b w).first
 between_joins z Less a b w l r s m = record { left_in = l; right_in = r; most_fits = omega arith }
 between_joins z AtMost a b w l r s m = record { left_in = l; right_in = r; most_fits = omega arith }
 between_joins z Equal a b w l r s m = record { left_in = l; right_in = r; most_fits = omega arith }
@@ -87,7 +87,7 @@ between_two AtLeast a b w t = absurd (cc)
 between_two More a b w t = absurd (cc)
 
 module _ (z : Zone) (o : Op) (a b w : ℕ) (u : ImposesNodes z a b w) (p : Constraints) (e : p ≡ between o a b w) where
-  pub first_joins : Joins z p.first
+  pub first_joins : Joins (length z) p.first
   first_joins = rw e (between_joins z o a b w u.left_in u.right_in u.added_some u.added_most)
 
   -- what is answered, and left of the zone
@@ -107,14 +107,11 @@ module _ (z : Zone) (o : Op) (a b w : ℕ) (u : ImposesNodes z a b w) (p : Const
     equal : (p.first ≡ at_most_by a b w) × (c ≡ at_most_by b a (2 * level - w))
     equal = rw e (between_two o a b w (rw e at t))
 
-    pub second_joins : Joins z c
+    pub second_joins : Joins (length z) c
     second_joins = rw equal.1 (record { left_in = u.right_in; right_in = u.left_in; most_fits = omega arith })
 
-    pub next_joins : Joins (kept z (constrained z p.first)) c
-    next_joins =
-        let j = second_joins in
-        let size = kept_length z p.first in
-        record { left_in = omega (arith, size, j.left_in); right_in = omega (arith, size, j.right_in); most_fits = j.most_fits }
+    pub next_joins : Joins (length (kept z (constrained z p.first))) c
+    next_joins = rw (kept_length z p.first) second_joins
 
     none_outcome : constrained_by z (p.first ∷ c ∷ []) ≡ none → Outcome false z
     unfolding imposed_by

@@ -23,7 +23,7 @@ module _ {n : ℕ} {d : List ℕ} {z : Zone} (u : InArray n d) (view : zone_in n
 
   -- ---- What is asked
 
-  pub constrains : {c : Constraint} → Joins z c → Constrains n d c
+  pub constrains : {c : Constraint} → Joins (length z) c → Constrains n d c
   constrains b = record {
     in_array = u;
     left_in = omega (arith, nodes_are, b.left_in);
@@ -48,7 +48,7 @@ module _ {n : ℕ} {d : List ℕ} {z : Zone} (u : InArray n d) (view : zone_in n
 
   -- ---- What is left
 
-  module _ {c : Constraint} {e : List ℕ} (b : Joins z c) (done : e ≡ laid d (kept (zone_in n d) (constrained (zone_in n d) c))) where
+  module _ {c : Constraint} {e : List ℕ} (b : Joins (length z) c) (done : e ≡ laid d (kept (zone_in n d) (constrained (zone_in n d) c))) where
     closed : Closed (kept z (constrained z c))
     closed = kept_closed z c (rw view at u.closed) b
 

@@ -3,11 +3,10 @@ use mathlib.Core.Path.{◌≡◌}
 use lib.ListN.{drop}
 use Rattle.base.specs.Lists.{all_of}
 use Rattle.zone.specs.Zone.{tightened}
-use Rattle.zone.specs.Array.{zone_in}
 use Rattle.breaking.specs.Breaking.{breakable}
 use Rattle.breaking.specs.Places.{choices_in, in_order}
 use Rattle.breaking.proofs.open_after.Given as goal
 
 abbrev pub invariant-loop-q : goal.invariant-loop-q
-invariant-loop-q l = all_of (breakable (tightened (zone_in l.n l.d) l.c)) (drop l.q-index (in_order l.rest (choices_in l.k)))
-    ≡ all_of (breakable (tightened (zone_in l.n l.d) l.c)) (in_order l.rest (choices_in l.k))
+invariant-loop-q g l = all_of (breakable (tightened l.z l.c)) (drop l.q-index (in_order l.rest (choices_in l.k)))
+    ≡ all_of (breakable (tightened l.z l.c)) (in_order l.rest (choices_in l.k))
