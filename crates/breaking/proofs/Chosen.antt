@@ -1,11 +1,13 @@
 -- Laws of one choice: the rows of a zone that obey one constraint more. Assumes nothing.
 use mathlib.Core.Path.{◌≡◌, refl, sym, ◌∙◌}
 use mathlib.Core.Bool.{Bool, true, false, cond, ◌&&◌}
-use mathlib.Core.Option.{none, some}
+use mathlib.Core.Option.{none, some, none-ne-some, some-injective}
 use mathlib.Core.List.{List}
+use lib.ListN.{length}
 use Rattle.base.specs.Lists.{all_of}
 use Rattle.zone.specs.declared.Constraint.{Constraint}
 use Rattle.zone.specs.Zone.{Zone, allows, tightened, constrained, kept}
+use Rattle.zone.proofs.Closed.{tight_length}
 use Rattle.breaking.specs.Breaking.{breakable, chosen}
 use Rattle.conditions.proofs.Meeting.{Ends, ends_none, ends_some}
 
@@ -19,6 +21,15 @@ module _ (z : Zone) (c : Constraint) (rest : List (List Constraint)) where
   chosen_some : (allows z c && all_of (breakable (tightened z c)) rest) ≡ true → chosen z c rest ≡ some (tightened z c)
   unfolding chosen
   chosen_some h = rw h
+
+  -- what was chosen has the zone's nodes
+  pub chosen_length : {y : Zone} → chosen z c rest ≡ some y → length y ≡ length z
+  unfolding chosen
+  chosen_length {y} is = go (allows z c && all_of (breakable (tightened z c)) rest) is
+    where
+      go : (l : Bool) → cond l (some (tightened z c)) none ≡ some y → length y ≡ length z
+      go false found = absurd (none-ne-some y found)
+      go true found = rw (← (some-injective (tightened z c) y found)) (tight_length z c)
 
 -- ---- What `choose` does with a way, which is c; l is what the look at the zone says, s what the look ahead says
 

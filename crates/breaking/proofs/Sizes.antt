@@ -8,7 +8,7 @@ use native.Mathlib.Omega.{arith}
 use lib.ListN.{length, get_or, take, length-map, length-append, length-take}
 use Rattle.base.specs.Lists.{◌∈◌, any_of}
 use Rattle.base.proofs.Places.{map_at}
-use Rattle.base.proofs.Arrays.{padded_length, get_or_padded, padded_past, padded_each}
+use Rattle.base.proofs.Arrays.{padded_length, get_or_padded, padded_past}
 use Rattle.model.specs.Tables as model
 use Rattle.job.specs.declared.Clause.{Clause}
 use Rattle.job.specs.declared.Condition.{Condition}

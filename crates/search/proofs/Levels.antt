@@ -1,9 +1,9 @@
 -- One level of the search: the ways of one clause, each tried in turn with the later clauses. Assumes nothing.
-use mathlib.Core.Path.{◌≡◌, sym, ◌∙◌}
+use mathlib.Core.Path.{◌≡◌, sym, ap, ◌∙◌}
 use mathlib.Core.Bool.{Bool, true, false}
 use mathlib.Core.List.{List, []}
 use mathlib.Core.Option.{Option, none, some}
-use Prim.Native.Nat.{ℕ, suc, ◌+◌, ◌-◌, ◌*◌, ◌<◌, ◌≤◌}
+use Prim.Native.Nat.{ℕ, suc, ◌+◌, ◌-◌, ◌<◌, ◌≤◌}
 use native.Mathlib.Omega.{arith}
 use lib.ListN.{length, get_or, take, drop, drop_of_length-le, length-drop}
 use lib.Seq.{drop-cons, get_or-drop, take_all}
@@ -15,15 +15,13 @@ use Rattle.base.proofs.Options.{none_of, then_none, then_some}
 use Rattle.base.proofs.Turns.{first_none, first_more, first_found}
 use Rattle.zone.specs.declared.Constraint.{Constraint}
 use Rattle.zone.specs.Zone.{Zone}
-use Rattle.zone.specs.Array.{zone_in}
-use Rattle.zone.specs.Uses.{InArray}
-use Rattle.conditions.proofs.Meeting.{Found, Ends, ends_some}
+use Rattle.conditions.proofs.Meeting.{some_of, Ends, ends_some}
 use Rattle.breaking.specs.declared.Choices.{Choices}
 use Rattle.breaking.specs.Breaking.{free, chosen}
 use Rattle.breaking.specs.Places.{ways_in, choices_in, clause_ways, in_order}
 use Rattle.breaking.specs.Uses.{WaysFit, ChoicesFit, Chooses}
 use Rattle.breaking.proofs.Clauses.{order_length, order_at}
-use Rattle.breaking.proofs.Chosen.{chosen_found}
+use Rattle.breaking.proofs.Chosen.{chosen_length}
 use Rattle.search.specs.Order.{weights, order_by}
 use Rattle.search.specs.Search.{broken, broken_by}
 use Rattle.search.proofs.Order.{Four, order_length as length-ordered, order_below}
@@ -57,37 +55,34 @@ later_is k o j = sym (drop-map _ j o)
 pub from_place : {o : List ℕ} → Four o → (j : ℕ) → take (4 - j) (drop j o) ≡ drop j o
 from_place {o} f j = let four = f.four in take_all (4 - j) (drop j o) (omega (arith, length-drop j o))
 
--- a loop over the ways of clause j for the rows of the zone in x, in a search for o: before way i nothing was found
-pub record Trying (n : ℕ) (k : Choices) (o : List ℕ) (goal : Option Zone) (j : ℕ) (x : List ℕ) (i : ℕ) (found : Bool) : Type 0 where
+-- a loop over the ways of clause j for the rows of the zone x, in a search for o: before way i nothing was found
+pub record Trying (n : ℕ) (k : Choices) (o : List ℕ) (goal : Option Zone) (j : ℕ) (x : Zone) (i : ℕ) (found : Bool) : Type 0 where
   pub ready : Ready n k o
   pub in_four : j < 4
-  pub in_array : InArray n x
-  pub barren : first_of (drop i (level k o j)) (tried (ordered k o) j (zone_in n x)) ≡ broken (zone_in n x) (drop j (ordered k o))
-  pub wins : (y : Zone) → broken (zone_in n x) (drop j (ordered k o)) ≡ some y → goal ≡ some y
+  pub size : length x ≡ n
+  pub barren : first_of (drop i (level k o j)) (tried (ordered k o) j x) ≡ broken x (drop j (ordered k o))
+  pub wins : (y : Zone) → broken x (drop j (ordered k o)) ≡ some y → goal ≡ some y
   pub not_yet : found ≡ false
 
-module _ {n : ℕ} {k : Choices} {o : List ℕ} {goal : Option Zone} (ready : Ready n k o) (j : ℕ) (in_four : j < 4) where
-  pub level_start : {x : List ℕ} {found : Bool} → InArray n x
-      → ((y : Zone) → broken (zone_in n x) (drop j (ordered k o)) ≡ some y → goal ≡ some y)
-      → found ≡ false → Trying n k o goal j x 0 found
-  level_start {x} u wins not_yet =
-      let four = ready.order.four in
-      record {
-        ready = ready;
-        in_four = in_four;
-        in_array = u;
-        barren = rw (drop-cons (ordered k o) j [] (omega (arith, order_length k o)), order_at k o j (omega arith));
-        wins = wins;
-        not_yet = not_yet;
-      }
+pub level_start : {n : ℕ} {k : Choices} {o : List ℕ} {goal : Option Zone} → Ready n k o → (j : ℕ) → j < 4 → {x : Zone} {found : Bool} → length x ≡ n
+    → ((y : Zone) → broken x (drop j (ordered k o)) ≡ some y → goal ≡ some y) → found ≡ false → Trying n k o goal j x 0 found
+level_start {n} {k} {o} ready j in_four {x} size wins not_yet =
+    let four = ready.order.four in
+    record {
+      ready = ready;
+      in_four = in_four;
+      size = size;
+      barren = rw (drop-cons (ordered k o) j [] (omega (arith, order_length k o)), order_at k o j (omega arith));
+      wins = wins;
+      not_yet = not_yet;
+    }
 
 -- nothing came of any way
-pub level_end : {n : ℕ} {k : Choices} {o : List ℕ} {goal : Option Zone} {j : ℕ} {x : List ℕ} {i : ℕ} {found : Bool}
-    → Trying n k o goal j x i found → {us : List Constraint} → us ≡ level k o j → length us ≤ i → broken (zone_in n x) (drop j (ordered k o)) ≡ none
-level_end {n} {k} {o} {goal} {j} {x} {i} l is h =
-    first_none (tried (ordered k o) j (zone_in n x)) free (level k o j) i l.barren (rw is at h)
+pub level_end : {n : ℕ} {k : Choices} {o : List ℕ} {goal : Option Zone} {j : ℕ} {x : Zone} {i : ℕ} {found : Bool}
+    → Trying n k o goal j x i found → {us : List Constraint} → us ≡ level k o j → length us ≤ i → broken x (drop j (ordered k o)) ≡ none
+level_end {n} {k} {o} {goal} {j} {x} {i} l is h = first_none (tried (ordered k o) j x) free (level k o j) i l.barren (rw is at h)
 
-module _ {n : ℕ} {k : Choices} {o : List ℕ} {goal : Option Zone} {j : ℕ} {x : List ℕ} {i : ℕ} {found : Bool}
+module _ {n : ℕ} {k : Choices} {o : List ℕ} {goal : Option Zone} {j : ℕ} {x : Zone} {i : ℕ} {found : Bool}
     (l : Trying n k o goal j x i found) where
   abbrev ks : List (List Constraint)
   ks = ordered k o
@@ -103,75 +98,72 @@ module _ {n : ℕ} {k : Choices} {o : List ℕ} {goal : Option Zone} {j : ℕ} {
     abbrev way : Constraint
     way = get_or (level k o j) i d
 
-    asked : (to : List ℕ) → n * 33 ≤ length to → Chooses n x to way k (drop (suc j) o)
-    asked to room = record {
-      in_array = l.in_array;
-      room = room;
-      way = fits way (element (level k o j) i d h);
-      choices = l.ready.fit;
+    asked : Chooses x way k (drop (suc j) o)
+    asked = record {
+      way = rw l.size (fits way (element (level k o j) i d h));
+      choices = rw l.size l.ready.fit;
       rest = λ r s.
           let four = l.ready.order.four in
           rw (get_or-drop (suc j) o r 0) (l.ready.order.below (suc j + r) (omega (arith, length-drop (suc j) o)));
     }
 
-    pub level_asks : (to : List ℕ) → n * 33 ≤ length to → Chooses n x to (get_or us i d) k ns
-    level_asks to room = rw (is, after) (asked to room)
+    pub level_asks : Chooses x (get_or us i d) k ns
+    level_asks = rw (is, after) asked
 
     -- something comes of way i
-    stops : {y : Zone} → tried ks j (zone_in n x) way ≡ some y → broken (zone_in n x) (drop j ks) ≡ some y
-    stops e = first_found (tried ks j (zone_in n x)) d (level k o j) i l.barren h e
+    stops : {y : Zone} → tried ks j x way ≡ some y → broken x (drop j ks) ≡ some y
+    stops e = first_found (tried ks j x) d (level k o j) i l.barren h e
 
     -- nothing does
-    goes_on : {found' : Bool} → tried ks j (zone_in n x) way ≡ none → found' ≡ false → Trying n k o goal j x (i + 1) found'
+    goes_on : {found' : Bool} → tried ks j x way ≡ none → found' ≡ false → Trying n k o goal j x (i + 1) found'
     goes_on e not_yet = record {
       ready = l.ready;
       in_four = l.in_four;
-      in_array = l.in_array;
-      barren = first_more (tried ks j (zone_in n x)) d (level k o j) i l.barren h e;
+      size = l.size;
+      barren = first_more (tried ks j x) d (level k o j) i l.barren h e;
       wins = l.wins;
       not_yet = not_yet;
     }
 
-    -- ---- one turn: r and e are what choosing way i answers and leaves in place of `to`
-    module _ (to : List ℕ) (room : n * 33 ≤ length to) {r : Bool} (e : List ℕ)
-        (told : Ends n (chosen (zone_in n x) (get_or us i d) (in_order ns (choices_in k))) r e)
-        (kept : length e ≡ length to) where
+    -- ---- one turn: r and e are what choosing way i answers and leaves
+    module _ {r : Bool} (e : Zone) (told : Ends (chosen x (get_or us i d) (in_order ns (choices_in k))) r e) where
       abbrev taken : Option Zone
-      taken = chosen (zone_in n x) way (drop (suc j) ks)
+      taken = chosen x way (drop (suc j) ks)
 
       abbrev later : Zone → Option Zone
       later y = broken y (drop (suc j) ks)
 
-      choice : Ends n taken r e
+      choice : Ends taken r e
       choice = rw (is, after, later_is k o (suc j)) at told
 
-      found_there : r ≡ true → Found n taken e
-      found_there = chosen_found (asked to room) (drop (suc j) ks) choice kept
+      found_there : r ≡ true → taken ≡ some e
+      found_there some_row = let (y, found) = some_of taken choice.0 some_row in found ∙ ap some (sym (choice.1 y found))
 
       -- what the later clauses leave is found
-      deeper : r ≡ true → (y : Zone) → broken (zone_in n e) (drop (suc j) ks) ≡ some y → goal ≡ some y
-      deeper some_row y deep = l.wins y (stops (then_some later (found_there some_row).is deep))
+      deeper : r ≡ true → (y : Zone) → broken e (drop (suc j) ks) ≡ some y → goal ≡ some y
+      deeper some_row y deep = l.wins y (stops (then_some later (found_there some_row) deep))
 
       -- the loop over the ways of the next clause begins
       pub turn_down : suc j < 4 → r ≡ true → Trying n k o goal (suc j) e 0 found
-      turn_down in-next some_row = level_start l.ready (suc j) in-next (found_there some_row).in_array (deeper some_row) l.not_yet
+      turn_down in-next some_row =
+          level_start l.ready (suc j) in-next (chosen_length x way (drop (suc j) ks) (found_there some_row) ∙ l.size) (deeper some_row) l.not_yet
 
       -- it ends with nothing
       pub turn_barren : {i' : ℕ} {found' found'' : Bool} → r ≡ true → Trying n k o goal (suc j) e i' found' → {vs : List Constraint}
           → vs ≡ level k o (suc j) → length vs ≤ i' → found'' ≡ found' → Trying n k o goal j x (i + 1) found''
       turn_barren some_row next there past same =
-          goes_on (then_some later (found_there some_row).is (level_end next there past)) (same ∙ next.not_yet)
+          goes_on (then_some later (found_there some_row) (level_end next there past)) (same ∙ next.not_yet)
 
       -- it doesn't begin
       pub turn_shut : {found' : Bool} → r ≡ false → found' ≡ found → Trying n k o goal j x (i + 1) found'
       turn_shut no_row same = goes_on (then_none later (none_of taken choice.0 no_row)) (same ∙ l.not_yet)
 
       -- a way of the last clause is taken: the search is over
-      pub turn_ends : j ≡ 3 → r ≡ true → Ends n goal true e
+      pub turn_ends : j ≡ 3 → r ≡ true → Ends goal true e
       turn_ends last some_row =
           let four = l.ready.order.four in
           let all-broken = drop_of_length-le ks {i = suc j} (omega (arith, order_length k o)) in
-          ends_some n e (deeper some_row (zone_in n e) (rw all-broken))
+          ends_some e (deeper some_row e (rw all-broken))
 
 -- ---- the whole search: o is the order, a what the clauses weigh
 pub order_four : (a : List ℕ) {o : List ℕ} → o ≡ order_by a → Four o

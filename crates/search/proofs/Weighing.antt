@@ -10,16 +10,14 @@ use lib.ListN.{length, get_or, take, length-append, length-take}
 use lib.Seq.{take-suc, take_all}
 use Rattle.base.specs.Lists.{filter, tabulate}
 use Rattle.base.specs.Arrays.{padded}
-use Rattle.base.proofs.Places.{element, tabulate_cong}
+use Rattle.base.proofs.Places.{tabulate_cong}
 use Rattle.base.proofs.Lists.{filter_append, filter_length}
 use Rattle.zone.specs.declared.Constraint.{Constraint}
 use Rattle.zone.specs.Zone.{Zone, allows}
-use Rattle.zone.specs.Uses.{Constrains}
 use Rattle.breaking.specs.declared.Choices.{Choices}
 use Rattle.breaking.specs.Places.{ways_in, clause_ways, choices_in}
 use Rattle.breaking.proofs.Clauses.{choices_at}
 use Rattle.search.specs.Order.{weights}
-use Rattle.search.specs.Uses.{Counts}
 
 module _ (z : Zone) (ws : List Constraint) where
   -- how many of the first i ways some row takes
@@ -44,12 +42,6 @@ module _ (z : Zone) (ws : List Constraint) where
 
     pub counted_left : allows z (get_or ws i d) ≡ false → counted i ≡ counted (i + 1)
     counted_left e = sym (more ∙ rw (e, add-zero))
-
-pub count_asks : {n : ℕ} {d : List ℕ} {ws : List Constraint} → Counts n d ws → {i : ℕ} (none : Constraint) → i < length ws
-    → Constrains n d (get_or ws i none)
-count_asks {ws = ws} u {i} none h =
-    let fits = u.ways (get_or ws i none) (element ws i none h) in
-    record { in_array = u.in_array; left_in = fits.left_in; right_in = fits.right_in; most_fits = fits.most_fits }
 
 -- ---- what clause q weighs
 abbrev pub weight_at : Zone → Choices → ℕ → ℕ

@@ -1,22 +1,21 @@
-// The search for a row that meets two conditions and breaks every clause of a third. A zone lies in a lent array, as in crate zone; what
-// the arrays between hold afterwards is nobody's concern.
+// The search for a row that meets two conditions and breaks every clause of a third.
 #![tactic(auto)]
 
-ghost use Rattle.std.specs.Prelude.{◌≡◌, ◌+◌, ◌<◌, length};
+ghost use Rattle.std.specs.Prelude.{◌≡◌, ◌<◌, ◌≤◌, length};
 ghost use Rattle.base.specs.Lists.{filter};
 ghost use Rattle.base.specs.Options.{is_some};
 ghost use Rattle.job.specs.Meaning.{condition_of};
-ghost use Rattle.zone.specs.Zone.{allows};
-ghost use Rattle.zone.specs.Array.{zone_in};
+ghost use Rattle.zone.specs.Zone.{point, allows};
 ghost use Rattle.conditions.specs.Meeting.{Lies};
 ghost use Rattle.breaking.specs.Places.{choices_in};
 ghost use Rattle.search.specs.Order.{weights, exchanged, order_by};
 ghost use Rattle.search.specs.Search.{broken_by, outside};
-ghost use Rattle.search.specs.Uses.{Order, Counts, Weighs, Breaks, SearchesOutside};
+ghost use Rattle.breaking.specs.Uses.{WaysFit};
+ghost use Rattle.search.specs.Uses.{Order, Weighs, SearchesOutside};
 
 use breaking::{Choices, choose};
 use job::{Condition, Job};
-use zone::Constraint;
+use zone::{Constraint, Zone};
 
 // What a clause past the last one weighs: more than any other, since a clause has twelve ways at most.
 const HEAVIEST: usize = 13;
@@ -24,13 +23,13 @@ const HEAVIEST: usize = 13;
 // ---- The order in which clauses are broken
 
 // How many of some ways some row of the zone takes.
-fn count_allowed(d: &[u64], n: usize, ways: &[Constraint]) -> usize
-    requires { Counts n d.now ways.now }
-    ensures { result ≡ length (filter (allows (zone_in n d.now)) ways.now) }
+fn count_allowed<const N: usize>(z: &Zone<N>, ways: &[Constraint]) -> usize
+    requires { WaysFit (length z.now) ways.now }
+    ensures { result ≡ length (filter (allows z.now) ways.now) }
 {
     let mut allowed = 0;
     for c in ways {
-        if zone::allows(d, n, *c) {
+        if z.allows(*c) {
             allowed += 1;
         }
     }
@@ -38,13 +37,13 @@ fn count_allowed(d: &[u64], n: usize, ways: &[Constraint]) -> usize
 }
 
 // What each clause weighs: as much as it has ways that some row takes.
-fn weigh(d: &[u64], n: usize, k: &Choices) -> [usize; Job::CLAUSES]
-    requires { Weighs n d.now k.now }
-    ensures { result ≡ weights (zone_in n d.now) k.now.clauses (choices_in k.now) }
+fn weigh<const N: usize>(z: &Zone<N>, k: &Choices) -> [usize; Job::CLAUSES]
+    requires { Weighs (length z.now) k.now }
+    ensures { result ≡ weights z.now k.now.clauses (choices_in k.now) }
 {
     let mut weights = [HEAVIEST; Job::CLAUSES];
     for q in 0..k.clauses {
-        weights[q] = count_allowed(d, n, k.ways[q].as_slice());
+        weights[q] = count_allowed(z, k.ways[q].as_slice());
     }
     weights
 }
@@ -81,35 +80,58 @@ fn order_by(weights: [usize; Job::CLAUSES]) -> [usize; Job::CLAUSES]
 
 // ---- Rows that break every clause
 
-// Some rows of a zone that break every clause, or none: by one way of each clause after the other. The zones between are laid into arrays
-// that are lent one by one: in a record of loans each contract would have to say that it holds the same arrays afterwards.
-fn broken(
-    x: &[u64],
-    n: usize,
+// Zones that a search lays rows into on its way: those that meet a pair of clauses, and of these those that break one clause, two, and
+// three. What they hold afterwards is nobody's concern.
+#[derive(Drop)]
+pub struct Scratch<const N: usize> {
+    pub pair: Zone<N>,
+    pub one: Zone<N>,
+    pub two: Zone<N>,
+    pub three: Zone<N>,
+}
+
+impl<const N: usize> Scratch<N> {
+    pub fn new() -> Self
+        requires { 33 ≤ N }
+        ensures { result ≡ record { pair = point; one = point; two = point; three = point } }
+    {
+        Self {
+            pair: Zone::new(),
+            one: Zone::new(),
+            two: Zone::new(),
+            three: Zone::new(),
+        }
+    }
+}
+
+// Some rows of a zone that break every clause, or none: by one way of each clause after the other. The zones between are lent one by one,
+// since x is another part of the same scratch.
+fn broken<const N: usize>(
+    x: &Zone<N>,
     k: &Choices,
-    y: &mut [u64],
-    v: &mut [u64],
-    w: &mut [u64],
-    out: &mut [u64],
+    y: &mut Zone<N>,
+    v: &mut Zone<N>,
+    w: &mut Zone<N>,
+    out: &mut Zone<N>,
 ) -> bool
-    requires { Breaks n x.now k.now y.old v.old w.old out.old }
-    ensures answer { result ≡ is_some (broken_by (zone_in n x.now) k.now.clauses (choices_in k.now)) }
-    ensures zone { Lies n (broken_by (zone_in n x.now) k.now.clauses (choices_in k.now)) out.new }
+    requires { Weighs (length x.now) k.now }
+    ensures answer { result ≡ is_some (broken_by x.now k.now.clauses (choices_in k.now)) }
+    ensures zone { Lies (broken_by x.now k.now.clauses (choices_in k.now)) out.new }
 {
-    let order = order_by(weigh(x, n, k));
+    let order = order_by(weigh(x, k));
     let one = k.ways[order[0]].as_slice();
     let two = k.ways[order[1]].as_slice();
     let three = k.ways[order[2]].as_slice();
     let four = k.ways[order[3]].as_slice();
     let mut found = false;
     'one: for a in one {
-        if choose(x, &mut *y, n, *a, k, &order[1..]) {
+        if choose(x, y, *a, k, &order[1..]) {
             'two: for b in two {
-                if choose(&*y, &mut *v, n, *b, k, &order[2..]) {
+                if choose(&*y, v, *b, k, &order[2..]) {
                     'three: for c in three {
-                        if choose(&*v, &mut *w, n, *c, k, &order[3..]) {
+                        if choose(&*v, w, *c, k, &order[3..]) {
                             'four: for d in four {
-                                if choose(&*w, &mut *out, n, *d, k, &order[4..]) {
+                                if choose(&*w, out, *d, k, &order[4..]) {
                                     found = true;
                                     break 'one;
                                 }
@@ -123,29 +145,31 @@ fn broken(
     found
 }
 
-// Some rows of a zone that meet both conditions and break every clause of another, or none. The rows of each pair of clauses are laid
-// into x.
-pub fn outside(
-    z: &[u64],
-    columns: usize,
+// Some rows of a zone that meet both conditions and break every clause of another, or none.
+pub fn outside<const N: usize>(
+    z: &Zone<N>,
     a: &Condition,
     b: &Condition,
     k: &Choices,
-    x: &mut [u64],
-    y: &mut [u64],
-    v: &mut [u64],
-    w: &mut [u64],
-    out: &mut [u64],
+    on_way: &mut Scratch<N>,
+    out: &mut Zone<N>,
 ) -> bool
-    requires { SearchesOutside columns z.now a.now b.now k.now x.old y.old v.old w.old out.old }
-    ensures answer { result ≡ is_some (outside (zone_in (columns + 1) z.now) (condition_of a.now) (condition_of b.now) k.now.clauses (choices_in k.now)) }
-    ensures zone { Lies (columns + 1) (outside (zone_in (columns + 1) z.now) (condition_of a.now) (condition_of b.now) k.now.clauses (choices_in k.now)) out.new }
+    requires { SearchesOutside z.now a.now b.now k.now }
+    ensures answer { result ≡ is_some (outside z.now (condition_of a.now) (condition_of b.now) k.now.clauses (choices_in k.now)) }
+    ensures zone { Lies (outside z.now (condition_of a.now) (condition_of b.now) k.now.clauses (choices_in k.now)) out.new }
 {
     let mut found = false;
     'first: for c in &a.clauses[..a.size] {
         'second: for e in &b.clauses[..b.size] {
-            if conditions::lay_pair(z, columns, c, e, &mut *x) {
-                if broken(&*x, columns + 1, k, &mut *y, &mut *v, &mut *w, &mut *out) {
+            if conditions::lay_pair(z, c, e, &mut on_way.pair) {
+                if broken(
+                    &on_way.pair,
+                    k,
+                    &mut on_way.one,
+                    &mut on_way.two,
+                    &mut on_way.three,
+                    out,
+                ) {
                     found = true;
                     break 'first;
                 }

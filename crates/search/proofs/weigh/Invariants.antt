@@ -1,9 +1,8 @@
 -- `search::weigh` meets its contract: a pass over the weights of the clauses. Assumes nothing.
 use lib.ListN.{replicate}
 use Rattle.base.proofs.Arrays.{Pass}
-use Rattle.zone.specs.Array.{zone_in}
 use Rattle.search.proofs.Weighing.{weight_at}
 use Rattle.search.proofs.weigh.Given as goal
 
 abbrev pub invariant-loop-q : goal.invariant-loop-q
-invariant-loop-q l = Pass (weight_at (zone_in l.n l.d) l.k) 0 l.k.clauses l.q (replicate 4 13) l.weights
+invariant-loop-q g l = Pass (weight_at l.z l.k) 0 l.k.clauses l.q (replicate 4 13) l.weights
