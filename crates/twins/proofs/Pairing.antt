@@ -4,24 +4,24 @@ use mathlib.Core.Bool.{Bool, true, false, ◌||◌, or-false}
 use mathlib.Core.List.{List}
 use mathlib.Core.Option.{Option, none, some}
 use mathlib.Core.Logic.{◌⊎◌, inl, inr, ⊎_elim}
-use Prim.Native.Nat.{ℕ, ◌+◌, ◌*◌, ◌<◌, ◌≤◌}
+use Prim.Native.Nat.{ℕ, ◌+◌, ◌<◌, ◌≤◌}
 use native.Mathlib.Nat.{zero-add}
-use native.Mathlib.Numerals.{add-one}
 use native.Mathlib.Omega.{arith}
 use lib.ListN.{length, get_or}
 use lib.Dec.{T, eqb, eqb→eq}
 use mir.Facts.{or_yes}
-use Rattle.base.specs.Lists.{all_of, at, range}
+use Rattle.base.specs.Lists.{at}
 use Rattle.base.specs.Options.{is_some, and_then, first_of}
 use Rattle.base.proofs.Arrays.{filled_same}
-use Rattle.base.proofs.Places.{all_at, tabulate_at, tabulate_length}
-use Rattle.base.proofs.Tests.{T-is}
+use Rattle.std.specs.List.{list_all, range_with_len}
+use Rattle.std.proofs.lemmas.List.Elements.{All-get_or}
+use Rattle.std.proofs.lemmas.List.FromFn.{length-range_with_len, get_or-range_with_len}
+use Rattle.std.proofs.lemmas.List.Sums.{AllPass-from_list_all}
+use Rattle.base.proofs.Tests.{T-is, is_T}
 use Rattle.model.specs.Tables as model
 use Rattle.job.specs.declared.Condition.{Condition}
 use Rattle.job.specs.Meaning.{condition_of}
-use Rattle.zone.specs.Zone.{Zone}
-use Rattle.zone.specs.Array.{zone_in}
-use Rattle.zone.proofs.Array.{zone_length}
+use Rattle.zone.specs.Zone.{Zone, Closed}
 use Rattle.solver.specs.Solver.{imposed_all}
 use Rattle.conditions.specs.Meeting.{pairs_of}
 use Rattle.conditions.proofs.Clauses.{items, item}
@@ -32,7 +32,7 @@ use Rattle.twins.specs.Pairs.{if_differ}
 use Rattle.twins.specs.Marks.{marked}
 use Rattle.twins.specs.Uses.{Marks}
 use Rattle.twins.proofs.Marking.{mark_of, marked_cong, marked_marked, marked_nothing}
-use Rattle.twins.proofs.Differing.{own_same}
+use Rattle.twins.proofs.Differing.{own_same, nodes_of}
 use Rattle.conditions.proofs.Turns.{turns_left, turns_start, turns_end, turn_without, turn_passed, turn_with}
 
 -- the marks, and those that the clauses of a list give; f c is what is looked for in the rows that meet a clause, for column c
@@ -45,58 +45,63 @@ marks_start z k l f marks w =
     marked_cong (λ c. is_some (first_of (turns_left k l 0 0) (λ k. and_then (imposed_all z k) (f c))))
     (λ c. is_some (pairs_of z (condition_of k) (condition_of l) (f c))) marks w (λ c h. ap is_some (turns_start k l z (f c)))
 
-module _ {n : ℕ} {z : List ℕ} {k l : Condition} {w : ℕ} {twin out : List ℕ} (u : Marks n z k l w twin out) where
-  abbrev at_first : Zone
-  at_first = zone_in (n + 1) z
-
+module _ (z : Zone) (k l : Condition) (w : ℕ) (twin : List ℕ) where
   abbrev sought : ℕ → Zone → Option Zone
   sought c = if_differ c (at twin c)
 
   abbrev left : ℕ → ℕ → ℕ → Bool
-  left q r c = is_some (first_of (turns_left k l q r) (λ k. and_then (imposed_all at_first k) (sought c)))
+  left q r c = is_some (first_of (turns_left k l q r) (λ k. and_then (imposed_all z k) (sought c)))
 
   -- no pair is left
-  pub marks_end : {q : ℕ} (marks : List Bool) → length (items k) ≤ q → marked_by (turns_left k l q 0) (zone_in (n + 1) z) w (λ c. if_differ c (at twin c)) marks ≡ marks
+  pub marks_end : {q : ℕ} (marks : List Bool) → length (items k) ≤ q → marked_by (turns_left k l q 0) z w (λ c. if_differ c (at twin c)) marks ≡ marks
   marks_end {q} marks h =
       marked_cong (left q 0) (λ c. false) marks w
-      (λ c g. ap is_some (turns_end k l (λ k. and_then (imposed_all at_first k) (sought c)) q refl h))
+      (λ c g. ap is_some (turns_end k l (λ k. and_then (imposed_all z k) (sought c)) q refl h))
       ∙ marked_nothing marks w
 
   -- every column is marked, or its own twin, and then no pair marks one more
-  pub marks_settled : (q r : ℕ) (marks : List Bool) → T (all_of (λ c. get_or marks c false || eqb (at twin c) c) (range w))
-      → marked_by (turns_left k l q r) (zone_in (n + 1) z) w (λ c. if_differ c (at twin c)) marks ≡ marks
+  pub marks_settled : Marks z k l w twin → Closed z → (q r : ℕ) (marks : List Bool)
+      → list_all (λ c. get_or marks c false || eqb (at twin c) c) (range_with_len 0 w) ≡ true
+      → marked_by (turns_left k l q r) z w (λ c. if_differ c (at twin c)) marks ≡ marks
   unfolding marked
-  marks_settled q r marks t = filled_same (mark_of (left q r) marks) 0 w marks false (λ c h. rw zero-add (here c h))
+  marks_settled u closed q r marks t = filled_same (mark_of (left q r) marks) 0 w marks false (λ c h. rw zero-add (here c h))
     where
+      passed : (c : ℕ) → c < w → T (get_or marks c false || eqb (at twin c) c)
+      passed c h =
+          let ok : ℕ → Bool = λ c. get_or marks c false || eqb (at twin c) c in
+          let here : c < length (range_with_len 0 w) = omega (arith, length-range_with_len 0 w) in
+          let all = All-get_or (λ c. ok c ≡ true) (range_with_len 0 w) c 0 here (AllPass-from_list_all ok (range_with_len 0 w) t) in
+          is_T (rw (get_or-range_with_len 0 w c 0 h ∙ zero-add c) at all)
+
       here : (c : ℕ) → c < w → mark_of (left q r) marks c ≡ get_or marks c false
       here c h = ⊎_elim
           (λ m. let is = T-is (get_or marks c false) m in rw is)
           (λ e.
           let own : at twin c ≡ c = eqb→eq (at twin c) c e in
-          let no_more : left q r c ≡ false = ap is_some (left_none u.searches.in_array.closed (zone_length (n + 1) z ∙ add-one n) (sought c)
+          let no_more : left q r c ≡ false = ap is_some (left_none closed (nodes_of closed) (sought c)
           (λ y cl size. rw own (own_same cl size (omega (arith, u.paired.first_in))))
           (condition_of k) (condition_of l) u.searches.first.fit u.searches.second.fit (place (length (items l)) q r)) in
           rw no_more (or-false (get_or marks c false)))
-          (or_yes (get_or marks c false) (eqb (at twin c) c) (rw (tabulate_at w (λ i. i) c 0 h) at (all_at _ (range w) c 0 t (omega (arith, tabulate_length w (λ i. i))))))
+          (or_yes (get_or marks c false) (eqb (at twin c) c) (passed c h))
 
-  -- one pair more; s and e are what laying it answers and leaves in y
-  module _ {q r : ℕ} (h : q < length (items k)) (g : r < length (items l)) (y : List ℕ) (room : (n + 1) * 33 ≤ length y) {s : Bool} (e : List ℕ)
-      (laid : Paired n z (item k q) (item l r) s e) (kept : length e ≡ length y) (marks : List Bool) where
+  -- one pair more; s and e are what laying it answers and leaves
+  module _ {q r : ℕ} (h : q < length (items k)) (g : r < length (items l)) {s : Bool} {e : Zone}
+      (laid : Paired z (item k q) (item l r) s e) (marks : List Bool) where
     without : s ≡ false → (c : ℕ) → left q (r + 1) c ≡ left q r c
-    without no_row c = ap is_some (turn_without k l h g u.searches y room e laid kept (sought c) refl no_row)
+    without no_row c = ap is_some (turn_without k l h g z laid (sought c) refl no_row)
 
-    with_pair : s ≡ true → (c : ℕ) → (is_some (sought c (zone_in (n + 1) e)) || left q (r + 1) c) ≡ left q r c
-    with_pair some_row c = go (sought c (zone_in (n + 1) e)) refl
+    with_pair : s ≡ true → (c : ℕ) → (is_some (sought c e) || left q (r + 1) c) ≡ left q r c
+    with_pair some_row c = go (sought c e) refl
       where
-        go : (o : Option Zone) → sought c (zone_in (n + 1) e) ≡ o → (is_some o || left q (r + 1) c) ≡ left q r c
-        go none i = ap is_some (turn_passed k l h g u.searches y room e laid kept (sought c) refl some_row i)
-        go (some v) i = sym (ap is_some (turn_with k l h g u.searches y room e laid kept (sought c) refl some_row i))
+        go : (o : Option Zone) → sought c e ≡ o → (is_some o || left q (r + 1) c) ≡ left q r c
+        go none i = ap is_some (turn_passed k l h g z laid (sought c) refl some_row i)
+        go (some v) i = sym (ap is_some (turn_with k l h g z laid (sought c) refl some_row i))
 
     pub marks_turn : w ≤ length marks → {new : List Bool}
-        → ((s ≡ true) × (new ≡ marked w (λ c. is_some (if_differ c (at twin c) (zone_in (n + 1) e))) marks)) ⊎ ((s ≡ false) × (new ≡ marks))
-        → marked_by (turns_left k l q (r + 1)) (zone_in (n + 1) z) w (λ c. if_differ c (at twin c)) new
-        ≡ marked_by (turns_left k l q r) (zone_in (n + 1) z) w (λ c. if_differ c (at twin c)) marks
+        → ((s ≡ true) × (new ≡ marked w (λ c. is_some (if_differ c (at twin c) e)) marks)) ⊎ ((s ≡ false) × (new ≡ marks))
+        → marked_by (turns_left k l q (r + 1)) z w (λ c. if_differ c (at twin c)) new
+        ≡ marked_by (turns_left k l q r) z w (λ c. if_differ c (at twin c)) marks
     marks_turn enough (inl (some_row, is)) = rw is (
-        marked_marked (left q (r + 1)) (λ c. is_some (sought c (zone_in (n + 1) e))) marks w enough
-        ∙ marked_cong (λ c. is_some (sought c (zone_in (n + 1) e)) || left q (r + 1) c) (left q r) marks w (λ c l. with_pair some_row c))
+        marked_marked (left q (r + 1)) (λ c. is_some (sought c e)) marks w enough
+        ∙ marked_cong (λ c. is_some (sought c e) || left q (r + 1) c) (left q r) marks w (λ c l. with_pair some_row c))
     marks_turn enough (inr (no_row, is)) = rw is (marked_cong (left q (r + 1)) (left q r) marks w (λ c l. without no_row c))

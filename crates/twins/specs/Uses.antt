@@ -1,10 +1,10 @@
 -- What the functions ask of their callers, all of which is code of this repository.
-use Rattle.std.specs.Prelude.{List, [], ℕ, ◌+◌, ◌*◌, ◌<◌, ◌≤◌, length, get_or, pos}
+use Rattle.std.specs.Prelude.{List, [], ℕ, ◌<◌, ◌≤◌, length, get_or, pos}
 use Rattle.base.specs.Lists.{at}
 use Rattle.job.specs.declared.Comparison.{Comparison}
 use Rattle.job.specs.declared.Clause.{Clause}
 use Rattle.job.specs.declared.Condition.{Condition}
-use Rattle.zone.specs.Uses.{InArray}
+use Rattle.zone.specs.Zone.{Zone, columns_of}
 use Rattle.conditions.specs.Uses.{Searches}
 
 -- ---- New names for columns
@@ -48,11 +48,6 @@ pub record Paired (n w : ℕ) (twin : List ℕ) : Type 0 where
   pub first_in : w ≤ n
   pub second_in : (c : ℕ) → c < w → at twin c < n
 
--- with a zone of the n columns
-pub record Twinned (n w : ℕ) (d twin : List ℕ) : Type 0 where
-  pub in_array : InArray (n + 1) d
-  pub paired : Paired n w twin
-
 -- columns that there can be
 abbrev pub Few : List ℕ → Type 0
 Few cs = (i : ℕ) → i < length cs → at cs i < 16
@@ -63,17 +58,11 @@ pub record Partners (n : ℕ) (cs twin : List ℕ) : Type 0 where
   pub first_in : (i : ℕ) → i < length cs → at cs i < n
   pub second_in : (i : ℕ) → i < length cs → at twin (at cs i) < n
 
-pub record Separates (n : ℕ) (d cs twin : List ℕ) : Type 0 where
-  pub in_array : InArray (n + 1) d
-  pub partners : Partners n cs twin
+-- two conditions, with such columns of the zone
+pub record Differs (z : Zone) (k l : Condition) (cs twin : List ℕ) : Type 0 where
+  pub searches : Searches z k l
+  pub partners : Partners (columns_of z) cs twin
 
--- with two conditions, and room for a zone
-pub record Differs (n : ℕ) (z : List ℕ) (k l : Condition) (cs twin out : List ℕ) : Type 0 where
-  pub searches : Searches n z k l
-  pub partners : Partners n cs twin
-  pub room : (n + 1) * 33 ≤ length out
-
-pub record Marks (n : ℕ) (z : List ℕ) (k l : Condition) (w : ℕ) (twin y : List ℕ) : Type 0 where
-  pub searches : Searches n z k l
-  pub paired : Paired n w twin
-  pub room : (n + 1) * 33 ≤ length y
+pub record Marks (z : Zone) (k l : Condition) (w : ℕ) (twin : List ℕ) : Type 0 where
+  pub searches : Searches z k l
+  pub paired : Paired (columns_of z) w twin

@@ -3,22 +3,23 @@
 #![tactic(auto)]
 
 ghost use Rattle.std.specs.Prelude.{◌≡◌, false, ◌||◌, [], map, suc, ◌+◌, ◌<◌, ◌≤◌, length, get_or, take, pos, eqb};
-ghost use Rattle.base.specs.Lists.{all_of, at, range, tabulate};
+ghost use Rattle.std.specs.List.{list_all, range_with_len};
+ghost use Rattle.base.specs.Lists.{at, tabulate};
 ghost use Rattle.base.specs.Options.{is_some};
 ghost use Rattle.base.specs.Arrays.{padded};
 ghost use Rattle.model.specs.Tables.{value};
 ghost use Rattle.job.specs.Meaning.{bounds_of, condition_of};
-ghost use Rattle.zone.specs.Zone.{can_differ};
-ghost use Rattle.zone.specs.Array.{zone_in};
+ghost use Rattle.zone.specs.Zone.{columns_of, can_differ};
 ghost use Rattle.conditions.specs.Meeting.{pairs_of, Lies};
 ghost use Rattle.twins.specs.Pairs.{some_apart, if_differ};
 ghost use Rattle.twins.specs.Records.{twins_of, column_more, twins_record, renamed_one, renamed_clause, renamed_condition};
 ghost use Rattle.twins.specs.Marks.{marked};
-ghost use Rattle.twins.specs.Uses.{Few, RenamesOne, RenamesClause, Renames, TwinsStand, Twinned, Separates, Differs, Marks};
+ghost use Rattle.twins.specs.Uses.{Few, RenamesOne, RenamesClause, Renames, TwinsStand, Paired, Partners, Differs, Marks};
 
 use job::{Clause, Columns, Comparison, Condition, Job};
 use model::Bounds;
 use words::Op;
+use zone::Zone;
 
 // At most so many columns in two rows as one.
 pub const COLUMNS: usize = 32;
@@ -134,10 +135,11 @@ impl TwinRows {
     // ---- Rows with different values in a column and its twin
 
     // Keeps the rows in which some column of the list has another value than its twin; where there are none it says so.
-    fn separate(&self, d: &mut [u64], cs: &[u8]) -> bool
-        requires { Separates self.now.columns d.old cs.now self.now.twin }
-        ensures answer { result ≡ is_some (some_apart (at self.now.twin) cs.now (zone_in (self.now.columns + 1) d.old)) }
-        ensures zone { Lies (self.now.columns + 1) (some_apart (at self.now.twin) cs.now (zone_in (self.now.columns + 1) d.old)) d.new }
+    fn separate<const N: usize>(&self, z: &mut Zone<N>, cs: &[u8]) -> bool
+        requires few { length z.old ≤ 33 }
+        requires partners { Partners (columns_of z.old) cs.now self.now.twin }
+        ensures answer { result ≡ is_some (some_apart (at self.now.twin) cs.now z.old) }
+        ensures zone { Lies (some_apart (at self.now.twin) cs.now z.old) z.new }
     {
         for c in cs {
             let less = Comparison {
@@ -150,9 +152,7 @@ impl TwinRows {
                 op: u8::from(Op::More),
                 ..less
             };
-            if solver::impose(&mut *d, self.columns, less)
-                || solver::impose(&mut *d, self.columns, more)
-            {
+            if solver::impose(z, less) || solver::impose(z, more) {
                 return true;
             }
         }
@@ -162,37 +162,32 @@ impl TwinRows {
     // Whether each column of the list is its own twin, and so can't differ from it.
     fn all_shared(&self, cs: &[u8]) -> bool
         requires { Few cs.now }
-        ensures { result ≡ all_of (λ c. eqb (at self.now.twin c) c) cs.now }
+        ensures { result ≡ list_all (λ c. eqb (at self.now.twin c) c) cs.now }
     {
-        for c in cs {
-            if self.twin[usize::from(*c)] != *c {
-                return false;
-            }
-        }
-        true
+        cs.iter().all(|c| self.twin[usize::from(*c)] == *c)
     }
 
     // Some rows of a zone that meet both conditions and are separated so, or none.
-    pub fn differ(
+    pub fn differ<const N: usize>(
         &self,
-        z: &[u64],
+        z: &Zone<N>,
         k: &Condition,
         l: &Condition,
         cs: &[u8],
-        out: &mut [u64],
+        out: &mut Zone<N>,
     ) -> bool
-        requires { Differs self.now.columns z.now k.now l.now cs.now self.now.twin out.old }
-        ensures answer { result ≡ is_some (pairs_of (zone_in (self.now.columns + 1) z.now) (condition_of k.now) (condition_of l.now) (some_apart (at self.now.twin) cs.now)) }
-        ensures zone { Lies (self.now.columns + 1) (pairs_of (zone_in (self.now.columns + 1) z.now) (condition_of k.now) (condition_of l.now) (some_apart (at self.now.twin) cs.now)) out.new }
+        requires { Differs z.now k.now l.now cs.now self.now.twin }
+        ensures answer { result ≡ is_some (pairs_of z.now (condition_of k.now) (condition_of l.now) (some_apart (at self.now.twin) cs.now)) }
+        ensures zone { Lies (pairs_of z.now (condition_of k.now) (condition_of l.now) (some_apart (at self.now.twin) cs.now)) out.new }
     {
+        // a column doesn't differ from itself, since a zone is closed, as `nodes` tells
+        let _ = z.nodes();
         if self.all_shared(cs) {
             return false;
         }
         for first in &k.clauses[..k.size] {
             for second in &l.clauses[..l.size] {
-                if conditions::lay_pair(z, self.columns, first, second, &mut *out)
-                    && self.separate(&mut *out, cs)
-                {
+                if conditions::lay_pair(z, first, second, out) && self.separate(out, cs) {
                     return true;
                 }
             }
@@ -201,48 +196,45 @@ impl TwinRows {
     }
 
     // Marks the columns whose values can differ from their twins'.
-    fn mark(&self, d: &[u64], marks: &mut [bool])
-        requires { Twinned self.now.columns (length marks.old) d.now self.now.twin }
-        ensures { marks.new ≡ marked (length marks.old) (λ c. can_differ (zone_in (self.now.columns + 1) d.now) (suc c) (suc (at self.now.twin c))) marks.old }
+    fn mark<const N: usize>(&self, z: &Zone<N>, marks: &mut [bool])
+        requires { Paired (columns_of z.now) (length marks.old) self.now.twin }
+        ensures { marks.new ≡ marked (length marks.old) (λ c. can_differ z.now (suc c) (suc (at self.now.twin c))) marks.old }
     {
         for (c, mark) in marks.iter_mut().enumerate() {
-            *mark |= zone::can_differ(d, self.columns + 1, c + 1, usize::from(self.twin[c]) + 1);
+            *mark |= z.can_differ(c + 1, usize::from(self.twin[c]) + 1);
         }
     }
 
     // Whether each of the first columns is marked, or is its own twin: then no more can be marked.
     fn all_marked(&self, marks: &[bool]) -> bool
         requires { length marks.now ≤ 16 }
-        ensures { result ≡ all_of (λ c. get_or marks.now c false || eqb (at self.now.twin c) c) (range (length marks.now)) }
+        ensures { result ≡ list_all (λ c. get_or marks.now c false || eqb (at self.now.twin c) c) (range_with_len 0 (length marks.now)) }
     {
-        for (c, mark) in marks.iter().enumerate() {
-            if !*mark && usize::from(self.twin[c]) != c {
-                return false;
-            }
-        }
-        true
+        (0..marks.len()).all(|c| marks[c] || usize::from(self.twin[c]) == c)
     }
 
     // Marks the columns, one for each mark, whose values can differ so in the rows that meet both conditions. The rows of each pair of
     // clauses are laid into y. Every pair may mark a column, while `differ` ends with the first that gives a row: so each has its own loop.
-    pub fn mark_pairs(
+    pub fn mark_pairs<const N: usize>(
         &self,
-        z: &[u64],
+        z: &Zone<N>,
         k: &Condition,
         l: &Condition,
-        y: &mut [u64],
+        y: &mut Zone<N>,
         marks: &mut [bool],
     )
-        requires { Marks self.now.columns z.now k.now l.now (length marks.old) self.now.twin y.old }
-        ensures { marks.new ≡ marked (length marks.old) (λ c. is_some (pairs_of (zone_in (self.now.columns + 1) z.now) (condition_of k.now) (condition_of l.now) (if_differ c (at self.now.twin c)))) marks.old }
+        requires { Marks z.now k.now l.now (length marks.old) self.now.twin }
+        ensures { marks.new ≡ marked (length marks.old) (λ c. is_some (pairs_of z.now (condition_of k.now) (condition_of l.now) (if_differ c (at self.now.twin c)))) marks.old }
     {
+        // a column doesn't differ from itself, since a zone is closed, as `nodes` tells
+        let _ = z.nodes();
         for first in &k.clauses[..k.size] {
             for second in &l.clauses[..l.size] {
                 if self.all_marked(&*marks) {
                     return;
                 }
-                if conditions::lay_pair(z, self.columns, first, second, &mut *y) {
-                    self.mark(&*y, &mut *marks);
+                if conditions::lay_pair(z, first, second, y) {
+                    self.mark(&*y, marks);
                 }
             }
         }

@@ -1,4 +1,5 @@
 use native.Mathlib.Omega.{arith}
+use borrow.Author.Rules.{rules}
 use mathlib.Core.Path.{refl}
 use Rattle.words.specs.declared.Op.TheVariants.{Less, More}
 use Rattle.twins.specs.Pairs.{some_apart}
@@ -8,43 +9,43 @@ use Rattle.twins.proofs.TwinRows.separate.Goals.{then-impose-via-then-impose, th
 
 pub loop-c-init : goal.loop-c-init
 unfolding some_apart
-loop-c-init c = (refl, refl)
+loop-c-init g c = (refl, refl)
 
 pub impose-requires-else-impose : goal.impose-requires-else-impose
-impose-requires-else-impose c =
-    let asked = c.requires in let i = c.loop-c.c-index in let h = c.loop-c-test.true in
-    let less = stays asked i h c.from-in-loop-c.ensures c.loop-c.invariant.0 Less c.from.ensures (c.impose.ensures.answer, c.impose.ensures.zone)
+impose-requires-else-impose g c =
+    let h = c.loop-c-test.true in
+    let less = stays _ _ _ _ h c.from-in-loop-c.ensures c.loop-c.invariant.0 Less c.from.ensures (c.impose.ensures.answer, c.impose.ensures.zone)
     c.if-impose.false in
-    impose_asks asked i h c.from-in-loop-c.ensures less.1 More c.from-in-loop-c-2.ensures
+    (search rules, impose_asks _ _ _ _ h c.from-in-loop-c.ensures less.1 More c.from-in-loop-c-2.ensures c.requires.partners)
 
 pub returns-then-impose : goal.returns-then-impose
-returns-then-impose c =
-    let asked = c.requires in let i = c.loop-c.c-index in let h = c.loop-c-test.true in
+returns-then-impose g c =
+    let h = c.loop-c-test.true in
     elim c.then-impose.branch [
       | then-impose-via-then-impose w ↦
-          let less = found asked i h c.from-in-loop-c.ensures c.loop-c.invariant.0 Less c.from.ensures
+          let less = found _ _ _ _ h c.from-in-loop-c.ensures c.loop-c.invariant.0 Less c.from.ensures
           (c.impose.ensures.answer, c.impose.ensures.zone) w.if-impose.true in
-          let r = less_apart asked i h c.loop-c.invariant.1 _ less in
-          record { answer = r.0; zone = rw w.d-is r.1 }
+          let r = less_apart _ _ _ _ h c.loop-c.invariant.1 less in
+          record { answer = r.0; zone = rw w.z-is r.1 }
       | then-impose-via-else-impose+then-impose-2 w ↦
-          let less = stays asked i h c.from-in-loop-c.ensures c.loop-c.invariant.0 Less c.from.ensures
+          let less = stays _ _ _ _ h c.from-in-loop-c.ensures c.loop-c.invariant.0 Less c.from.ensures
           (c.impose.ensures.answer, c.impose.ensures.zone) w.if-impose.false in
-          let more = found asked i h c.from-in-loop-c.ensures less.1 More c.from-in-loop-c-2.ensures
+          let more = found _ _ _ _ h c.from-in-loop-c.ensures less.1 More c.from-in-loop-c-2.ensures
           (w.impose-else-impose.ensures.answer, w.impose-else-impose.ensures.zone) w.if-impose-2.true in
-          let r = more_apart asked i h c.loop-c.invariant.1 _ less.0 more in
-          record { answer = r.0; zone = rw w.d-is r.1 }
+          let r = more_apart _ _ _ _ h c.loop-c.invariant.1 less.0 more in
+          record { answer = r.0; zone = rw w.z-is r.1 }
     ]
 
 pub loop-c-preserved : goal.loop-c-preserved
-loop-c-preserved c =
-    let asked = c.requires in let i = c.loop-c.c-index in let h = c.loop-c-test.true in
-    let less = stays asked i h c.from-in-loop-c.ensures c.loop-c.invariant.0 Less c.from.ensures (c.impose.ensures.answer, c.impose.ensures.zone)
+loop-c-preserved g c =
+    let h = c.loop-c-test.true in
+    let less = stays _ _ _ _ h c.from-in-loop-c.ensures c.loop-c.invariant.0 Less c.from.ensures (c.impose.ensures.answer, c.impose.ensures.zone)
     c.if-impose.false in
-    let more = stays asked i h c.from-in-loop-c.ensures less.1 More c.from-in-loop-c-2.ensures
+    let more = stays _ _ _ _ h c.from-in-loop-c.ensures less.1 More c.from-in-loop-c-2.ensures
     (c.impose-else-impose.ensures.answer, c.impose-else-impose.ensures.zone) c.if-impose-2.false in
-    (more.1, none_apart asked i h c.loop-c.invariant.1 less.0 more.0)
+    (more.1, none_apart _ _ _ _ h c.loop-c.invariant.1 less.0 more.0)
 
 pub returns : goal.returns
-returns c =
-    let r = no_columns c.requires c.loop-c.c-index (omega (arith, c.loop-c-test.false)) c.loop-c.invariant.1 _ in
+returns g c =
+    let r = no_columns _ _ _ c.loop-c.c-index (omega (arith, c.loop-c-test.false)) c.loop-c.invariant.1 _ in
     record { answer = r.0; zone = r.1 }
