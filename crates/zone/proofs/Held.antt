@@ -1,21 +1,22 @@
 -- A zone that lies in entries, and what is asked of it by its nodes, as the functions over entries ask it. Assumes nothing.
 use mathlib.Core.Path.{◌≡◌, refl, sym, ◌∙◌, ap}
-use mathlib.Core.List.{List, [], ◌∷◌}
-use Prim.Native.Nat.{ℕ, zero, suc, ◌*◌, ◌<◌, ◌≤◌}
+use mathlib.Core.List.{List, [], ◌∷◌, ◌++◌}
+use Prim.Native.Nat.{ℕ, zero, suc, ◌+◌, ◌*◌, ◌<◌, ◌≤◌}
 use native.Mathlib.Omega.{arith}
-use lib.ListN.{length, set, replicate}
+use lib.ListN.{length, take, drop, set, replicate}
 use Rattle.std.proofs.lemmas.List.{length-set, length-replicate, get_or-set_same}
 use Rattle.base.specs.Lists.{at}
 use Rattle.words.specs.Bias.{bias}
-use Rattle.zone.specs.Matrix.{matrix}
+use Rattle.zone.specs.Matrix.{matrix, entry}
 use Rattle.zone.specs.declared.Constraint.{Constraint}
 use Rattle.zone.specs.Zone.{Zone, Closed, level, point, boxed, constrained, kept}
-use Rattle.zone.specs.Array.{zone_in, laid, copied}
-use Rattle.zone.specs.Uses.{InArray, Joins, Follows, Given, NodeBounds, TwoNodes, Room, Constrains, FollowsIn, Extends}
-use Rattle.zone.proofs.Array.{zone_length, zone_copied}
+use Rattle.zone.specs.Array.{zone_in, laid}
+use Rattle.zone.specs.Uses.{InArray, Joins, NodeBounds, Constrains}
+use Rattle.zone.proofs.Array.{zone_length}
+use Rattle.zone.proofs.Ranges.{place_entry}
 use Rattle.zone.proofs.Box.{box_length, box_closed}
 use Rattle.zone.proofs.Answers.{kept_length, kept_closed}
-use Rattle.zone.proofs.Laid.{laid_is, laid_in_array, copied_in_array}
+use Rattle.zone.proofs.Laid.{laid_is, laid_in_array, copied_is}
 
 module _ {n : ℕ} {d : List ℕ} {z : Zone} (u : InArray n d) (view : zone_in n d ≡ z) where
   pub nodes_are : n ≡ length z
@@ -31,20 +32,19 @@ module _ {n : ℕ} {d : List ℕ} {z : Zone} (u : InArray n d) (view : zone_in n
     most_fits = b.most_fits;
   }
 
-  pub follows : {c e : Constraint} → Follows z c e → FollowsIn n d c e
-  follows f = record {
-    first = record { asked = constrains f.first; allowed = rw view f.allowed };
-    second = constrains f.second;
-  }
+  -- an entry is where it stands
+  module _ {i j : ℕ} (r : (i < length z) × (j < length z)) where
+    rows_in : (i < n) × (j < n)
+    rows_in = (omega (arith, nodes_are, r.0), omega (arith, nodes_are, r.1))
 
-  pub two_nodes : {i j : ℕ} → (i < length z) × (j < length z) → TwoNodes n d i j
-  two_nodes r = record { in_array = u; first = omega (arith, nodes_are, r.0); second = omega (arith, nodes_are, r.1) }
+    pub place_below : i * 33 + j < length d
+    place_below = omega (arith, rows_in.0, rows_in.1, u.room, u.small)
 
-  pub room_in : {x : List ℕ} → length x ≡ length z → Room n d x
-  room_in size = record { in_array = u; size = size ∙ sym nodes_are }
+    pub entry_is : at d (i * 33 + j) ≡ entry z i j
+    entry_is = rw (← view) (place_entry u rows_in.0 rows_in.1)
 
-  pub extends_in : {ps vs x : List ℕ} → Given (length z) ps vs → length x ≡ length z → Extends n d ps vs x
-  extends_in given size = record { room = room_in size; given = rw nodes_are given }
+  pub closed_is : Closed z
+  closed_is = rw view at u.closed
 
   -- ---- What is left
 
@@ -61,12 +61,8 @@ module _ {n : ℕ} {d : List ℕ} {z : Zone} (u : InArray n d) (view : zone_in n
     pub kept_is : zone_in n e ≡ kept z (constrained z c)
     kept_is = rw (done, view) (laid_is n d _ u.room u.small closed size)
 
-  module _ (to : List ℕ) {e : List ℕ} (room : n * 33 ≤ length to) (done : e ≡ copied n d to) where
-    pub copy_in_array : InArray n e
-    copy_in_array = rw done (copied_in_array to u room)
-
-    pub copy_is : zone_in n e ≡ z
-    copy_is = rw done (zone_copied n d to u.small room ∙ view)
+  pub copy_is : (to : List ℕ) {rows : List ℕ} → n * 33 ≤ length to → rows ≡ take (n * 33) d → zone_in n (rows ++ drop (n * 33) to) ≡ z
+  copy_is to room same = copied_is to u room same ∙ view
 
 -- ---- A box
 

@@ -1,8 +1,0 @@
--- `zone::set_box` meets its contract: a pass over the rows of the box. Assumes nothing.
-use lib.ListN.{length}
-use Rattle.zone.proofs.Rows.{RowPass}
-use Rattle.zone.proofs.Turns.{box_rows}
-use Rattle.zone.proofs.set_box.Given as goal
-
-abbrev pub invariant-loop-i : goal.invariant-loop-i
-invariant-loop-i l = RowPass (box_rows l.lo l.hi) (length l.lo) l.i l.initial.d l.d
