@@ -4,11 +4,11 @@ use mathlib.Core.Logic.{◌⊎◌, inl, inr}
 use mathlib.Core.List.{List, ◌++◌}
 use Prim.Native.Nat.{ℕ, ◌+◌, ◌-◌, ◌<◌, ◌≤◌}
 use native.Mathlib.Omega.{arith}
-use lib.ListN.{length, take, drop, replicate, length-map, length-drop, length-replicate, get_or-eq_default}
+use lib.ListN.{length, take, drop, replicate, length-map, length-drop, get_or-eq_default}
 use lib.Seq.{take-append-le}
 use lib.IntN.{ℤ, pos}
 use borrow.Author.Tests.{le-leb, lt-leb, ne_eqb}
-use Rattle.base.proofs.Places.{tabulate_cong}
+use Rattle.base.proofs.Places.{tabulate_length, tabulate_cong}
 use Rattle.base.specs.Lists.{at, tabulate}
 use Rattle.base.specs.Arrays.{padded}
 use Rattle.base.proofs.Arrays.{get_or_padded, padded_past, drop_replicate}
@@ -18,35 +18,29 @@ use Rattle.model.specs.Tables.{Row, value}
 use Rattle.model.specs.declared.Kind.{Kind}
 use Rattle.model.specs.declared.Kind.TheVariants.{Computable, TablesDiffer, RowNotKept, ConditionHidden, OutputHidden}
 use Rattle.model.specs.Answers.{number_of_kind}
-use Rattle.zone.specs.Zone.{least_of}
-use Rattle.zone.specs.Array.{zone_in}
-use Rattle.solver.specs.Uses.{LeastRoom}
+use Rattle.zone.specs.Zone.{Zone, level, columns_of, least_of}
+use Rattle.zone.specs.Matrix.{entry}
 use Rattle.job.specs.declared.Columns.{Columns}
 use Rattle.job.specs.declared.Expression.{Expression}
-use Rattle.twins.specs.declared.TwinRows.{TwinRows}
 use Rattle.databases.specs.declared.Database.{Database}
 use Rattle.databases.specs.declared.Pair.{Pair}
 use Rattle.databases.specs.Databases.{no_database, row_record, reduced_record, least_in, first_in, second_in}
-use Rattle.databases.specs.Databases.{one_pair, two_pair, pair_record, shown_columns}
-use Rattle.databases.specs.Uses.{HasLeast}
+use Rattle.databases.specs.Databases.{one_pair, two_pair, pair_record}
 
 -- ---- the least row
-module _ (n : ℕ) (d : List ℕ) (has : HasLeast n d) where
-  room : LeastRoom d (replicate n (pos 0))
-  room = has (replicate n (pos 0)) (length-replicate n (pos 0))
-
-  pub least_few : n ≤ 32
-  least_few = omega (arith, room.in_array.small, length-replicate n (pos 0))
-
-  pub least_size : length (least_in n d) ≡ n
+module _ (z : Zone) where
+  pub least_size : length (least_in z) ≡ columns_of z
+  unfolding least_of
   least_size =
-      let nodes : length (least_of (zone_in (n + 1) d)) ≡ n + 1 = rw (length-replicate n (pos 0)) at room.words.size in
-      length-map (drop 1 (least_of (zone_in (n + 1) d))) (unbiased bias) ∙ omega (arith, length-drop 1 (least_of (zone_in (n + 1) d)))
+      length-map (drop 1 (least_of z)) (unbiased bias)
+      ∙ omega (arith, length-drop 1 (least_of z), tabulate_length (length z) (λ i. bias + level - entry z 0 i))
 
-  pub least_read : {row : List ℤ} → row ≡ least_in n d → row ++ drop n (replicate 32 (pos 0)) ≡ padded 32 (pos 0) (least_in n d)
-  least_read e =
-      ap (λ (xs : List ℤ). xs ++ drop n (replicate 32 (pos 0))) e
-      ∙ ap (λ (zs : List ℤ). least_in n d ++ zs) (drop_replicate n 32 (pos 0) ∙ ap (λ (k : ℕ). replicate (32 - k) (pos 0)) (sym least_size))
+  pub least_read : {n : ℕ} {row : List ℤ} → n ≡ length z → row ≡ least_in z
+      → row ++ drop (n - 1) (replicate 32 (pos 0)) ≡ padded 32 (pos 0) (least_in z)
+  least_read {n} size e =
+      ap (λ (xs : List ℤ). xs ++ drop (n - 1) (replicate 32 (pos 0))) e
+      ∙ ap (λ (zs : List ℤ). least_in z ++ zs)
+      (drop_replicate (n - 1) 32 (pos 0) ∙ ap (λ (k : ℕ). replicate (32 - k) (pos 0)) (omega (arith, size, least_size)))
 
 -- ---- the rows in it
 padded_value : (n : ℕ) (row : Row) (k : ℕ) → value (padded n (pos 0) row) k ≡ value row k
@@ -54,14 +48,17 @@ padded_value n row k =
     by_less k (length row) (get_or_padded n (pos 0) row k (pos 0)) (λ h.
     padded_past n (pos 0) row k h ∙ sym (get_or-eq_default row (pos 0) h))
 
-module _ (n : ℕ) (row : Row) {least : List ℤ} (e : least ≡ padded 32 (pos 0) row) where
-  pub first_read : n ≤ length row → {one : List ℤ} → one ≡ padded 16 (pos 0) (take n least) → one ≡ first_in n row
+module _ (n : ℕ) (z : Zone) {least : List ℤ} (e : least ≡ padded 32 (pos 0) (least_in z)) where
+  abbrev row : Row
+  row = least_in z
+
+  pub first_read : n ≤ columns_of z → {one : List ℤ} → one ≡ padded 16 (pos 0) (take n least) → one ≡ first_in n (least_in z)
   first_read h f =
       f ∙ ap (λ (xs : List ℤ). padded 16 (pos 0) (take n xs)) e
-      ∙ ap (padded 16 (pos 0)) (take-append-le n row (replicate (32 - length row) (pos 0)) h)
+      ∙ ap (padded 16 (pos 0)) (take-append-le n row (replicate (32 - length row) (pos 0)) (omega (arith, least_size z, h)))
 
   pub second_read : (twin : List ℕ) → {other : List ℤ}
-      → other ≡ padded 16 (pos 0) (tabulate n (λ c. value least (at twin c))) → other ≡ second_in n twin row
+      → other ≡ padded 16 (pos 0) (tabulate n (λ c. value least (at twin c))) → other ≡ second_in n twin (least_in z)
   second_read twin f =
       f ∙ ap (λ (xs : List ℤ). padded 16 (pos 0) (tabulate n (λ c. value xs (at twin c)))) e
       ∙ ap (padded 16 (pos 0)) (tabulate_cong n (λ c. value (padded 32 (pos 0) row) (at twin c)) (λ c. value row (at twin c)) (λ c _.
@@ -105,15 +102,15 @@ pub none_made : (k : Columns) (extract query : Expression) (twin : List ℕ) (ki
 unfolding pair_record
 none_made k extract query twin kind row is d-is f-is = rw (is, d-is, f-is)
 
--- the row is of as many columns as the kind calls for
-module _ (k : Columns) (extract query : Expression) (rows : TwinRows) (kind : ℕ) (some : 0 < kind) (row : ℕ → Row) where
+-- of the kinds that have a row
+module _ (k : Columns) (extract query : Expression) (twin : List ℕ) (kind : ℕ) (some : 0 < kind) (row : Row) where
   abbrev shown : Pair
-  shown = pair_record k extract query rows.twin kind (row (shown_columns k rows kind))
+  shown = pair_record k extract query twin kind row
 
-  pub pair_one : kind ≤ 2 → {p : Pair} → p ≡ one_pair k extract query kind (row k.width) → p ≡ shown
+  pub pair_one : kind ≤ 2 → {p : Pair} → p ≡ one_pair k extract query kind row → p ≡ shown
   unfolding pair_record
   pair_one h e = rw (ne_eqb kind 0 (λ e. omega arith), le-leb kind 2 h) e
 
-  pub pair_two : 2 < kind → {p : Pair} → p ≡ two_pair k query rows.twin (row rows.columns) → p ≡ shown
+  pub pair_two : 2 < kind → {p : Pair} → p ≡ two_pair k query twin row → p ≡ shown
   unfolding pair_record
   pair_two h e = rw (ne_eqb kind 0 (λ e. omega arith), lt-leb kind 2 h) e

@@ -1,12 +1,13 @@
 -- The two databases of a kind and the row that shows it are those that these stand for, and they are tidy. Assumes nothing.
 use mathlib.Core.Path.{◌≡◌, refl, sym, ap, ◌∙◌}
+use mathlib.Core.Bool.{cond}
 use mathlib.Core.List.{List}
 use Prim.Native.Nat.{ℕ, zero, suc, ◌<◌, ◌≤◌}
 use native.Mathlib.Omega.{arith}
 use lib.ListN.{length, take, length-take}
 use lib.Seq.{length-take-le, take_all}
 use lib.IntN.{ℤ, pos}
-use lib.Dec.{T}
+use lib.Dec.{T, leb}
 use borrow.Author.Tests.{ne_eqb, lt-leb}
 use Rattle.base.proofs.Places.{tabulate_length}
 use Rattle.base.specs.Lists.{at, tabulate}
@@ -29,10 +30,14 @@ use Rattle.twins.proofs.Twinned.{record_columns, first_is, second_is}
 use Rattle.databases.specs.declared.Database.{Database}
 use Rattle.databases.specs.declared.Pair.{Pair}
 use Rattle.databases.specs.Databases.{no_database, database_of, TidyDatabase, row_record, reduced_record, first_in, second_in}
-use Rattle.databases.specs.Databases.{one_pair, two_pair, pair_record, shown_columns}
+use Rattle.databases.specs.Databases.{one_pair, two_pair, pair_record}
 use Rattle.databases.proofs.Rows.{one_row, other_row, first_by, second_by}
 use Rattle.databases.proofs.Databases.{row_is, row_tidy, reduced_is, reduced_tidy, none_is, none_tidy}
 use Rattle.databases.proofs.Pairing.{pair_two}
+
+-- how many columns the row of a kind has
+abbrev pub shown_columns : Columns → TwinRows → ℕ → ℕ
+shown_columns k rows kind = cond (leb kind 2) k.width rows.columns
 
 -- a tidy pair that stands for two databases
 pub record Shows (k : Columns) (extract query : Expression) (p : Pair) (d f : model.Database) : Type 0 where
@@ -152,7 +157,7 @@ module _ (k : Columns) (extract query : Expression) (laid : record_of (job_of k 
       let all = rw (lt-leb kind 2 h) at (long (omega arith)) ∙ record_columns (columns j) j.extract.outputs in
       let enough : n ≤ length row = omega (arith, all, twins_length n j.extract.outputs (columns j) refl) in
       rw (
-        ← pair_two k extract query rows kind (omega arith) (λ _. row) h refl,
+        ← pair_two k extract query rows.twin kind (omega arith) row h refl,
         ne_eqb kind 0 (λ e. omega arith),
         ne_eqb kind 1 (λ e. omega arith),
         lt-leb kind 2 h,

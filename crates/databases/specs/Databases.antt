@@ -1,19 +1,17 @@
 -- Databases of at most one row in each table, as the code holds them.
-use Rattle.std.specs.Prelude.{◌≡◌, Bool, false, cond, ◌&&◌, List, [], ◌∷◌, map, ℕ, ◌+◌, ◌<◌, ◌≤◌, length, get_or, take, replicate, ℤ, pos, eqb, leb}
+use Rattle.std.specs.Prelude.{◌≡◌, Bool, false, cond, ◌&&◌, List, [], ◌∷◌, map, ℕ, ◌<◌, ◌≤◌, length, get_or, take, replicate, ℤ, pos, eqb, leb}
 use Rattle.base.specs.Lists.{at, tabulate}
 use Rattle.base.specs.Arrays.{padded}
 use Rattle.model.specs.Tables as model
 use Rattle.model.specs.Tables.{Row, uses, part_of, value}
 use Rattle.model.specs.Verdict.{columns, uses_other}
-use Rattle.zone.specs.Zone.{least_of}
-use Rattle.zone.specs.Array.{zone_in}
+use Rattle.zone.specs.Zone.{Zone, least_of}
 use Rattle.solver.specs.Solver.{row_of}
 use Rattle.job.specs.declared.Column.{Column}
 use Rattle.job.specs.declared.Columns.{Columns}
 use Rattle.job.specs.declared.Expression.{Expression}
 use Rattle.job.specs.Record.{no_column}
 use Rattle.job.specs.Meaning.{expression_of, table_numbers}
-use Rattle.twins.specs.declared.TwinRows.{TwinRows}
 use Rattle.databases.specs.declared.Database.{Database}
 use Rattle.databases.specs.declared.Pair.{Pair}
 
@@ -61,9 +59,9 @@ reduced_record k extract query row =
 
 -- ---- Two databases, of a kind and the row that shows it
 
--- the least row of the zone of n columns in an array
-abbrev pub least_in : ℕ → List ℕ → Row
-least_in n d = row_of (least_of (zone_in (n + 1) d))
+-- the least row of a zone
+abbrev pub least_in : Zone → Row
+least_in z = row_of (least_of z)
 
 -- the first row and the second of two as one, in arrays
 abbrev pub first_in : ℕ → Row → List ℤ
@@ -90,7 +88,3 @@ unfoldable pub pair_record : Columns → Expression → Expression → List ℕ 
 pair_record k extract query twin kind row =
     cond (eqb kind 0) (record { first = no_database; second = no_database })
     (cond (leb kind 2) (one_pair k extract query kind row) (two_pair k query twin row))
-
--- how many columns the row of a kind has
-abbrev pub shown_columns : Columns → TwinRows → ℕ → ℕ
-shown_columns k rows kind = cond (leb kind 2) k.width rows.columns

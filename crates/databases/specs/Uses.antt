@@ -1,9 +1,9 @@
 -- What the functions ask of their callers, all of which is code of this repository.
 use Rattle.std.specs.Prelude.{◌≡◌, List, ℕ, ◌<◌, ◌≤◌, length, ℤ}
-use Rattle.solver.specs.Uses.{LeastRoom}
+use Rattle.zone.specs.Zone.{Zone, columns_of, least_of}
+use Rattle.solver.specs.Uses.{WordNodes}
 use Rattle.job.specs.declared.Expression.{Expression}
 use Rattle.job.specs.declared.Columns.{Columns}
-use Rattle.twins.specs.declared.TwinRows.{TwinRows}
 use Rattle.twins.specs.Uses.{TwinsStand}
 use Rattle.databases.specs.Databases.{table_at}
 
@@ -23,27 +23,28 @@ pub record MakesDatabases (k : Columns) (extract query : Expression) : Type 0 wh
   pub extract_used : extract.tables ≤ 4
   pub query_used : query.tables ≤ 4
 
--- an array with a zone of n columns, whose least row can be read
-abbrev pub HasLeast : ℕ → List ℕ → Type 0
-HasLeast n d = (row : List ℤ) → length row ≡ n → LeastRoom d row
+-- a zone whose least row's values are of 32 bits
+abbrev pub HasLeast : Zone → Type 0
+HasLeast z = (row : List ℤ) → length row ≡ columns_of z → WordNodes (least_of z) row
 
 -- and the zone that was found: of these columns
-pub record PairsOne (k : Columns) (extract query : Expression) (d : List ℕ) : Type 0 where
+pub record PairsOne (k : Columns) (extract query : Expression) (z : Zone) : Type 0 where
   pub makes : MakesDatabases k extract query
-  pub least : HasLeast k.width d
+  pub first_in : k.width ≤ columns_of z
+  pub least : HasLeast z
 
 -- of the columns of two rows as one
-pub record PairsTwo (k : Columns) (query : Expression) (rows : TwinRows) (d : List ℕ) : Type 0 where
+pub record PairsTwo (k : Columns) (query : Expression) (twin : List ℕ) (z : Zone) : Type 0 where
   pub few : TablesFew k
   pub query_used : query.tables ≤ 4
-  pub first_in : k.width ≤ rows.columns
-  pub second_in : TwinsStand rows.twin k.width
-  pub least : HasLeast rows.columns d
+  pub first_in : k.width ≤ columns_of z
+  pub second_in : TwinsStand twin k.width
+  pub least : HasLeast z
 
 -- of those that the kind calls for
-pub record PairsBy (k : Columns) (extract query : Expression) (rows : TwinRows) (kind : ℕ) (d : List ℕ) : Type 0 where
-  pub one : 0 < kind → kind < 3 → PairsOne k extract query d
-  pub two : 3 ≤ kind → PairsTwo k query rows d
+pub record PairsBy (k : Columns) (extract query : Expression) (twin : List ℕ) (kind : ℕ) (z : Zone) : Type 0 where
+  pub one : 0 < kind → kind < 3 → PairsOne k extract query z
+  pub two : 3 ≤ kind → PairsTwo k query twin z
 
 -- columns that are listed
 pub record ListsColumns (k : Columns) (extract : Expression) : Type 0 where

@@ -8,13 +8,14 @@ ghost use Rattle.model.specs.Verdict.{uses_other};
 ghost use Rattle.model.specs.Answers.{number_of_kind, number_of_held};
 ghost use Rattle.job.specs.Meaning.{expression_of};
 ghost use Rattle.databases.specs.Databases.{no_database, database_record, present_in, row_record, reduced_record};
-ghost use Rattle.databases.specs.Databases.{least_in, one_pair, two_pair, pair_record, shown_columns};
+ghost use Rattle.databases.specs.Databases.{least_in, one_pair, two_pair, pair_record};
 ghost use Rattle.databases.specs.Listing.{listed_at, listed_by};
 ghost use Rattle.databases.specs.Uses.{UsesFew, TablesFew, MakesDatabases, HasLeast, PairsOne, PairsTwo, PairsBy, ListsColumns};
 
 use job::{Columns, Expression, Job};
 use model::{Held, Kind};
 use twins::TwinRows;
+use zone::Zone;
 
 // At most one row in each table: in which tables there is one, and the values of its columns.
 #[derive(Clone, Copy, Default)]
@@ -130,28 +131,29 @@ fn reduced_database(
 
 // ---- The two databases
 
-// The least row of the zone of n columns in d, with zeros behind.
-fn least_of(d: &[u64], n: usize) -> [i32; twins::COLUMNS]
-    requires { HasLeast n d.now }
-    ensures { result ≡ padded 32 (pos 0) (least_in n d.now) }
+// The least row of a zone, with zeros behind.
+fn least_of<const N: usize>(z: &Zone<N>) -> [i32; twins::COLUMNS]
+    requires { HasLeast z.now }
+    ensures { result ≡ padded 32 (pos 0) (least_in z.now) }
 {
+    let n = z.nodes() - 1;
     let mut least = [0i32; twins::COLUMNS];
-    solver::read_least(d, &mut least[..n]);
+    solver::read_least(z, &mut least[..n]);
     least
 }
 
 // Of the least row: the row, and what is left of it without other tables, or none.
-fn one_row_pair(
+fn one_row_pair<const N: usize>(
     k: &Columns,
     extract: &Expression,
     query: &Expression,
     kind: Kind,
-    d: &[u64],
+    z: &Zone<N>,
 ) -> Pair
-    requires { PairsOne k.now extract.now query.now d.now }
-    ensures { result ≡ one_pair k.now extract.now query.now (number_of_kind kind) (least_in k.now.width d.now) }
+    requires { PairsOne k.now extract.now query.now z.now }
+    ensures { result ≡ one_pair k.now extract.now query.now (number_of_kind kind) (least_in z.now) }
 {
-    let row = twins::first_row(least_of(d, k.width), k.width);
+    let row = twins::first_row(least_of(z), k.width);
     let first = row_database(k, query, row);
     let second = match kind {
         Kind::TablesDiffer => reduced_database(k, extract, query, row),
@@ -161,11 +163,16 @@ fn one_row_pair(
 }
 
 // Of the least row of two as one: the two rows.
-fn two_row_pair(k: &Columns, query: &Expression, rows: &TwinRows, d: &[u64]) -> Pair
-    requires { PairsTwo k.now query.now rows.now d.now }
-    ensures { result ≡ two_pair k.now query.now rows.now.twin (least_in rows.now.columns d.now) }
+fn two_row_pair<const N: usize>(
+    k: &Columns,
+    query: &Expression,
+    rows: &TwinRows,
+    z: &Zone<N>,
+) -> Pair
+    requires { PairsTwo k.now query.now rows.now.twin z.now }
+    ensures { result ≡ two_pair k.now query.now rows.now.twin (least_in z.now) }
 {
-    let least = least_of(d, rows.columns);
+    let least = least_of(z);
     let one = twins::first_row(least, k.width);
     let other = rows.second_row(least, k.width);
     Pair {
@@ -174,25 +181,25 @@ fn two_row_pair(k: &Columns, query: &Expression, rows: &TwinRows, d: &[u64]) -> 
     }
 }
 
-// Of a kind, and the zone that was found for it: with kind 0, which has none, d isn't looked at.
-pub fn pair_of(
+// Of a kind, and the zone that was found for it: with kind 0, which has none, z isn't looked at.
+pub fn pair_of<const N: usize>(
     k: &Columns,
     extract: &Expression,
     query: &Expression,
     rows: &TwinRows,
     kind: Kind,
-    d: &[u64],
+    z: &Zone<N>,
 ) -> Pair
-    requires { PairsBy k.now extract.now query.now rows.now (number_of_kind kind) d.now }
-    ensures { result ≡ pair_record k.now extract.now query.now rows.now.twin (number_of_kind kind) (least_in (shown_columns k.now rows.now (number_of_kind kind)) d.now) }
+    requires { PairsBy k.now extract.now query.now rows.now.twin (number_of_kind kind) z.now }
+    ensures { result ≡ pair_record k.now extract.now query.now rows.now.twin (number_of_kind kind) (least_in z.now) }
 {
     match kind {
         Kind::Computable => Pair {
             first: no_database(),
             second: no_database(),
         },
-        Kind::TablesDiffer | Kind::RowNotKept => one_row_pair(k, extract, query, kind, d),
-        Kind::ConditionHidden | Kind::OutputHidden => two_row_pair(k, query, rows, d),
+        Kind::TablesDiffer | Kind::RowNotKept => one_row_pair(k, extract, query, kind, z),
+        Kind::ConditionHidden | Kind::OutputHidden => two_row_pair(k, query, rows, z),
     }
 }
 
