@@ -3,7 +3,7 @@ use mathlib.Core.Path.{◌≡◌, refl, sym, ap, ◌∙◌}
 use mathlib.Core.Bool.{Bool, true, false, not, cond, ◌&&◌, ◌||◌}
 use mathlib.Core.List.{List, ◌++◌}
 use mathlib.Core.Option.{Option, none, some}
-use Prim.Native.Nat.{ℕ, ◌+◌, ◌*◌, ◌<◌, ◌≤◌}
+use Prim.Native.Nat.{ℕ, ◌<◌, ◌≤◌}
 use native.Mathlib.Omega.{arith}
 use lib.ListN.{length, get_or, replicate, length-replicate, get_or-append}
 use lib.Dec.{T}
@@ -19,8 +19,7 @@ use Rattle.job.specs.declared.Columns.{Columns}
 use Rattle.job.specs.declared.Expression.{Expression}
 use Rattle.job.specs.Meaning.{job_of, problem}
 use Rattle.job.proofs.Records.{Sized}
-use Rattle.zone.specs.Zone.{Zone, least_of}
-use Rattle.zone.specs.Array.{zone_in}
+use Rattle.zone.specs.Zone.{Zone, columns_of, least_of}
 use Rattle.solver.specs.Solver.{row_of}
 use Rattle.conditions.specs.Meeting.{Lies}
 use Rattle.conditions.proofs.Stands.{Stands}
@@ -28,22 +27,23 @@ use Rattle.twins.specs.declared.TwinRows.{TwinRows}
 use Rattle.twins.specs.Marks.{marked}
 use Rattle.twins.proofs.Marking.{marked_length, marked_at}
 use Rattle.databases.specs.declared.Pair.{Pair}
-use Rattle.databases.specs.Databases.{least_in, pair_record, shown_columns}
+use Rattle.databases.specs.Databases.{least_in, pair_record}
 use Rattle.databases.specs.Listing.{listed_by}
 use Rattle.databases.specs.Uses.{HasLeast, PairsBy}
 use Rattle.databases.proofs.Rows.{first_by, second_by}
 use Rattle.databases.proofs.Pairing.{least_size}
-use Rattle.databases.proofs.Pairs.{pair_none, pair_shows}
+use Rattle.databases.proofs.Pairs.{shown_columns, pair_none, pair_shows}
 use Rattle.databases.proofs.Listing.{listing_is}
 use Rattle.verdict.specs.Found.{both_bounds, found1, found2, found3, found4, found_kind, finding, unfixed_in}
 use Rattle.verdict.specs.Uses.{Given, Decides}
 use Rattle.verdict.specs.Verdict.{listing_record, HandsOut}
 use Rattle.verdict.proofs.Rows.{least_found, first_handed, second_handed}
-use Rattle.verdict.proofs.Limits.{taken, both_near, both_most}
+use Rattle.verdict.proofs.Limits.{taken, both_near}
 use Rattle.verdict.proofs.Decided.{kind_1_zone, kind_2_zone, kind_3_zone, kind_4_zone, kind_found, fixed_found}
 use Rattle.verdict.proofs.Handed.{handed_as, handed}
-use Rattle.verdict.proofs.Rooms.{least_room}
-use Rattle.verdict.proofs.Ready.{both_is, columns_is, width_of, width_below, pairs_one, pairs_two}
+use Rattle.verdict.proofs.Rooms.{least_words}
+use Rattle.verdict.proofs.Told.{Told}
+use Rattle.verdict.proofs.Ready.{both_is, columns_is, width_of, pairs_one, pairs_two}
 
 -- ---- the zone that was found is one of rows of the job, or of two as one
 module _ (j : model.Job) (w : T (well_formed j)) where
@@ -81,10 +81,9 @@ module _ (j : model.Job) (w : T (well_formed j)) where
   unfolding found_kind finding
   found_shown = by_finding (tables_differ j) (found1 j) refl
 
--- ---- it lies in an array with room for two rows as one
+-- ---- what is made of it
 module _ {k : Columns} {extract query : Expression} {rows : TwinRows} (u : Decides k extract query rows) (size : Sized (problem k extract query))
-    (out : List ℕ) (room : (rows.columns + 1) * 33 ≤ length out)
-    (lies : Lies (shown_columns k rows (found_kind (job_of k extract query)) + 1) (finding (job_of k extract query)) out) where
+    (out : Zone) (lies : Lies (finding (job_of k extract query)) out) where
   abbrev j : model.Job
   j = job_of k extract query
 
@@ -94,50 +93,38 @@ module _ {k : Columns} {extract query : Expression} {rows : TwinRows} (u : Decid
   abbrev shown : ℕ
   shown = shown_columns k rows (found_kind j)
 
-  wide : rows.columns ≡ length (both_bounds j)
-  wide = columns_is u size
-
-  narrow : k.width ≡ length (columns j)
-  narrow = width_of u size
-
   module _ (h : 0 < found_kind j) where
     s : Shown j g.formed (found_kind j) (finding j)
     s = found_shown j g.formed h
 
-    there : zone_in (shown + 1) out ≡ s.zone
+    there : out ≡ s.zone
     there = lies s.zone s.is
 
-    of_one : found_kind j ≤ 2 → (HasLeast k.width out) × (shown ≡ k.width)
+    of_one : found_kind j ≤ 2 → HasLeast out × (columns_of out ≡ k.width)
     of_one l =
         let (p, stands) = s.one l in
-        let is : shown ≡ k.width = rw (le-leb (found_kind j) 2 l) in
-        let few : length (columns j) ≤ 32 = omega (arith, (taken j g.formed).few_columns) in
-        let zone : zone_in (length (columns j) + 1) out ≡ s.zone = ap (λ (m : ℕ). zone_in (m + 1) out) (sym (is ∙ narrow)) ∙ there in
-        let enough : (length (columns j) + 1) * 33 ≤ length out = omega (arith, narrow, width_below u size) in
-        (λ row e. least_room (columns j) few p s.zone stands (taken j g.formed).range row (e ∙ narrow) out enough zone, is)
+        let few : columns_of s.zone ≡ length (columns j) = omega (arith, stands.size) in
+        rw there (λ row e. least_words (columns j) p s.zone stands (taken j g.formed).range row (e ∙ few), few ∙ sym (width_of u size))
 
-    of_two : 2 < found_kind j → (HasLeast rows.columns out) × (shown ≡ rows.columns)
+    of_two : 2 < found_kind j → HasLeast out × (columns_of out ≡ rows.columns)
     of_two l =
         let (p, stands) = s.two l in
-        let is : shown ≡ rows.columns = rw (lt-leb (found_kind j) 2 l) in
-        let zone : zone_in (length (both_bounds j) + 1) out ≡ s.zone = ap (λ (m : ℕ). zone_in (m + 1) out) (sym (is ∙ wide)) ∙ there in
-        let enough : (length (both_bounds j) + 1) * 33 ≤ length out = omega (arith, wide) in
-        (λ row e. least_room (both_bounds j) (both_most j g.formed) p s.zone stands (both_near j g.formed) row (e ∙ wide) out enough zone, is)
+        let few : columns_of s.zone ≡ length (both_bounds j) = omega (arith, stands.size) in
+        rw there (λ row e. least_words (both_bounds j) p s.zone stands (both_near j g.formed) row (e ∙ few), few ∙ sym (columns_is u size))
 
     -- the row that is read is the least one of what was found
-    row_shown : (length (least_in shown out) ≡ shown) × (least_in shown out ≡ least_found (finding j))
+    row_shown : (length (least_in out) ≡ shown) × (least_in out ≡ least_found (finding j))
     row_shown = (
-      by_less (found_kind j) 3 (λ l. sized (of_one (omega arith))) (λ l. sized (of_two (omega arith))),
+      by_less (found_kind j) 3
+          (λ l. least_size out ∙ (of_one (omega arith)).1 ∙ rw (le-leb (found_kind j) 2 (omega arith)))
+          (λ l. least_size out ∙ (of_two (omega arith)).1 ∙ rw (lt-leb (found_kind j) 2 (omega arith))),
       ap (λ (z : Zone). row_of (least_of z)) there ∙ sym (ap least_found s.is),
     )
-      where
-        sized : {n : ℕ} → (HasLeast n out) × (shown ≡ n) → length (least_in shown out) ≡ shown
-        sized {n} (least, is) = ap (λ (m : ℕ). length (least_in m out)) is ∙ least_size n out least ∙ sym is
 
-  pairs_by : PairsBy k extract query rows (found_kind j) out
+  pairs_by : PairsBy k extract query rows.twin (found_kind j) out
   pairs_by = record {
-    one = λ h l. pairs_one u size (of_one h (omega arith)).0;
-    two = λ l. pairs_two u size (of_two (omega arith) (omega arith)).0;
+    one = λ h l. let (least, same) = of_one h (omega arith) in pairs_one u size same least;
+    two = λ l. let (least, same) = of_two (omega arith) (omega arith) in pairs_two u size same least;
   }
 
   -- with no kind nothing is read of the row
@@ -145,11 +132,11 @@ module _ {k : Columns} {extract query : Expression} {rows : TwinRows} (u : Decid
   unfolding first_by second_by
   nothing_shown kind e a b = rw e (refl, refl)
 
-  hands_out : {p : Pair} → p ≡ pair_record k extract query rows.twin (found_kind j) (least_in shown out) → HandsOut k extract query p.first p.second
+  hands_out : {p : Pair} → p ≡ pair_record k extract query rows.twin (found_kind j) (least_in out) → HandsOut k extract query p.first p.second
   unfolding first_handed second_handed
   hands_out is =
       let twins = both_is u size in
-      let row = least_in shown out in
+      let row = least_in out in
       let shows = pair_shows k extract query g.laid g.formed (found_kind j) row (λ h. (row_shown h).0 ∙ ap (λ (t : TwinRows). shown_columns k t (found_kind j)) twins) in
       let (same, same') : (first_by j (found_kind j) row ≡ first_handed j) × (second_by j (found_kind j) row ≡ second_handed j) =
       by_less 0 (found_kind j) (λ h. (ap (first_by j (found_kind j)) (row_shown h).1, ap (second_by j (found_kind j)) (row_shown h).1))
@@ -164,14 +151,12 @@ module _ {k : Columns} {extract query : Expression} {rows : TwinRows} (u : Decid
 
 -- ---- with the kind that the code has
 module _ {k : Columns} {extract query : Expression} {rows : TwinRows} (u : Decides k extract query rows) (size : Sized (problem k extract query))
-    (out : List ℕ) (room : (rows.columns + 1) * 33 ≤ length out) (kind : ℕ)
-    (kinds : kind ≡ found_kind (job_of k extract query)) (lies : Lies (shown_columns k rows kind + 1) (finding (job_of k extract query)) out) where
-  pub pairs_asked : PairsBy k extract query rows kind out
-  pairs_asked = rw kinds (pairs_by u size out room (rw kinds at lies))
+    {kind : ℕ} {out : Zone} (told : Told u size kind out) where
+  pub pairs_asked : PairsBy k extract query rows.twin kind out
+  pairs_asked = rw told.0 (pairs_by u size out told.1)
 
-  pub pair_handed_out : {p : Pair} → p ≡ pair_record k extract query rows.twin kind (least_in (shown_columns k rows kind) out)
-      → HandsOut k extract query p.first p.second
-  pair_handed_out is = hands_out u size out room (rw kinds at lies) (rw kinds at is)
+  pub pair_handed_out : {p : Pair} → p ≡ pair_record k extract query rows.twin kind (least_in out) → HandsOut k extract query p.first p.second
+  pair_handed_out is = hands_out u size out told.1 (rw told.0 at is)
 
 -- ---- the listing, by marks on the columns that aren't fixed: in front of those of the columns that aren't there
 pub listing_told : (k : Columns) (extract query : Expression) → Given k extract query → k.width ≡ length (columns (job_of k extract query))

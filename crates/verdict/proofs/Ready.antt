@@ -23,19 +23,17 @@ use Rattle.job.specs.Record.{no_column}
 use Rattle.job.specs.Meaning.{condition_of, expression_of, job_of, problem}
 use mir.Val.{Val}
 use denote.Laws.{Is}
-use Rattle.job.specs.contracts.Columns as columns_of
+use Rattle.job.specs.contracts.Columns as declared_columns
 use Rattle.job.specs.contracts.Expression as expression
 use Rattle.job.proofs.Records.{Sized, sized_columns, sized_expression}
 use Rattle.job.proofs.Declared.{width_is, bounds_are, extract_is, query_is}
 use Rattle.job.proofs.Counts.{used_fit, outputs_fit, clauses_fit, comparisons_fit, condition_is, tables_below}
-use Rattle.zone.specs.Zone.{Zone}
-use Rattle.zone.specs.Array.{zone_in, laid}
-use Rattle.zone.specs.Uses.{InArray}
+use Rattle.zone.specs.Zone.{Zone, columns_of}
 use Rattle.solver.specs.Solver.{bounds_fit, box_of, imposed_all}
 use Rattle.solver.specs.Uses.{BoundsRoom}
 use Rattle.solver.proofs.Formed.{outputs_declared}
 use Rattle.conditions.specs.Meeting.{both, met, pairs_of, always}
-use Rattle.conditions.specs.Uses.{condition_fits, Small, ConditionFits, Searches}
+use Rattle.conditions.specs.Uses.{condition_fits, Small, ConditionFits}
 use Rattle.conditions.proofs.Stands.{Stands}
 use Rattle.twins.specs.declared.TwinRows.{TwinRows}
 use Rattle.twins.specs.Pairs.{apart, some_apart, if_differ}
@@ -46,10 +44,9 @@ use Rattle.twins.proofs.Twinned.{record_columns, record_bounds, twin_at, twin_na
 use Rattle.twins.proofs.Names.{compares, twins_renamed}
 use Rattle.databases.specs.Uses.{UsesFew, TablesFew, HasLeast, PairsOne, PairsTwo, ListsColumns}
 use Rattle.verdict.specs.Found.{without, twin, both_bounds, keeps_one, keeps_other, wants_one, wants_other, box, box2, found1, found2, found3, found4, unfixed_in}
-use Rattle.verdict.specs.Uses.{Given, Decides, both_rows}
+use Rattle.verdict.specs.Uses.{FindsOne, FindsTwo, Given, Decides, both_rows}
 use Rattle.verdict.proofs.Limits.{taken, both_fit, both_most, keeps_one_lem, keeps_other_lem, wants_one_lem, wants_other_lem, first_most, column_below, twin_below}
 use Rattle.verdict.proofs.Decided.{every, one, two}
-use Rattle.verdict.proofs.Rooms.{stands_in_array, stands_zone}
 
 -- ---- searches with another function that agrees
 pairs_cong : (z : Zone) (k l : model.Condition) (f g : Zone → Option Zone) → ((y : Zone) → f y ≡ g y) → pairs_of z k l f ≡ pairs_of z k l g
@@ -78,7 +75,7 @@ unfolding twins_record twins_of twin_bounds
 first_bounds bs stored = rw append_assoc (take-append_seam bs _)
 
 -- ---- the arrays of the records have their lengths
-pub sizes : (k : Columns) (extract query : Expression) (us vs ws : List Val) → Is columns_of.the_row k us → Is expression.the_row extract vs
+pub sizes : (k : Columns) (extract query : Expression) (us vs ws : List Val) → Is declared_columns.the_row k us → Is expression.the_row extract vs
     → Is expression.the_row query ws → Sized (problem k extract query)
 sizes k extract query us vs ws a b c = record {
   columns = sized_columns k us a;
@@ -129,34 +126,27 @@ module _ {k : Columns} {extract query : Expression} {rows : TwinRows} (u : Decid
   two_listed : take rows.columns rows.bounds ≡ both_bounds j
   two_listed = rw both_is (record_bounds (columns j) j.extract.outputs)
 
-  -- the bounds of n columns are bs, and z is their box
-  module _ (n : ℕ) (few : n ≤ 32) (bs : List Bounds) (is : take n rows.bounds ≡ bs) (fit : T (all_of bounds_fit bs))
-      (same : n ≡ length bs) (z : Zone) (box_is : box_of bs ≡ z) (stands : Stands bs every z) (d : List ℕ) (room : (n + 1) * 33 ≤ length d) where
-    lays : BoundsRoom d (take n rows.bounds)
-    lays = rw is (record { room = omega (arith, same); small = omega (arith, same); fit = fit })
+  -- the bounds of n columns are bs
+  module _ (n : ℕ) (few : n ≤ 32) (bs : List Bounds) (is : take n rows.bounds ≡ bs) (fit : T (all_of bounds_fit bs)) (same : n ≡ length bs)
+      (room_of : ℕ) where
+    lays : (n + 1) * 33 ≤ room_of → BoundsRoom room_of (take n rows.bounds)
+    lays room = rw is (record { room = omega (arith, same); small = omega (arith, same); fit = fit })
 
-    boxed : {b : List ℕ} → b ≡ laid d (box_of (take n rows.bounds)) → (zone_in (n + 1) b ≡ z) × InArray (n + 1) b
-    boxed left =
-        let at-z : laid d (box_of (take n rows.bounds)) ≡ laid d z = ap (λ (cs : List Bounds). laid d (box_of cs)) is ∙ ap (laid d) box_is in
-        let small : length bs ≤ 32 = omega (arith, same) in
-        let enough : (length bs + 1) * 33 ≤ length d = omega (arith, same) in
-        rw (left ∙ at-z, same) (stands_zone bs small every z stands d enough, stands_in_array bs small every z stands d enough)
+  module _ (room_of : ℕ) (room : (rows.columns + 1) * 33 ≤ room_of) where
+    pub one_asks : BoundsRoom room_of (take k.width rows.bounds)
+    one_asks = lays k.width (omega (arith, width_most)) (columns j) one_listed (taken j g.formed).bounds width_of room_of (omega (arith, width_below))
 
-  module _ (d : List ℕ) (room : (k.width + 1) * 33 ≤ length d) where
-    pub one_asks : BoundsRoom d (take k.width rows.bounds)
-    one_asks = lays k.width (omega (arith, width_most)) (columns j) one_listed (taken j g.formed).bounds width_of (box j) refl (one j g.formed) d room
+    pub two_asks : BoundsRoom room_of (take rows.columns rows.bounds)
+    two_asks = lays rows.columns columns_most (both_bounds j) two_listed (both_fit j g.formed) columns_is room_of room
 
-    pub one_box : {b : List ℕ} → b ≡ laid d (box_of (take k.width rows.bounds))
-        → (zone_in (k.width + 1) b ≡ box (job_of k extract query)) × InArray (k.width + 1) b
-    one_box = boxed k.width (omega (arith, width_most)) (columns j) one_listed (taken j g.formed).bounds width_of (box j) refl (one j g.formed) d room
+  pub one_box : {b : Zone} → b ≡ box_of (take k.width rows.bounds) → b ≡ box (job_of k extract query)
+  one_box left = left ∙ ap box_of one_listed
 
-  module _ (d : List ℕ) (room : (rows.columns + 1) * 33 ≤ length d) where
-    pub two_asks : BoundsRoom d (take rows.columns rows.bounds)
-    two_asks = lays rows.columns columns_most (both_bounds j) two_listed (both_fit j g.formed) columns_is (box2 j) refl (two j g.formed) d room
+  pub two_box : {b : Zone} → b ≡ box_of (take rows.columns rows.bounds) → b ≡ box2 (job_of k extract query)
+  two_box left = left ∙ ap box_of two_listed
 
-    pub two_box : {b : List ℕ} → b ≡ laid d (box_of (take rows.columns rows.bounds))
-        → (zone_in (rows.columns + 1) b ≡ box2 (job_of k extract query)) × InArray (rows.columns + 1) b
-    two_box = boxed rows.columns columns_most (both_bounds j) two_listed (both_fit j g.formed) columns_is (box2 j) refl (two j g.formed) d room
+  box_nodes : (bs : List Bounds) {z b : Zone} → Stands bs every z → b ≡ z → (0 < length b) × (columns_of b ≡ length bs)
+  box_nodes bs s is = rw is (omega (arith, s.size), omega (arith, s.size))
 
   -- ---- the conditions
   keeps_is : condition_of extract.condition ≡ keeps_one j
@@ -190,12 +180,16 @@ module _ {k : Columns} {extract query : Expression} {rows : TwinRows} (u : Decid
     fit = subst (λ (n : ℕ). T (condition_fits n (condition_of c))) (sym same) (subst (λ (k : model.Condition). T (condition_fits m k)) (sym is) fit);
   }
 
-  pub one_searches : {b : List ℕ} → InArray (k.width + 1) b → Searches k.width b extract.condition query.condition
-  one_searches inside = record {
-    in_array = inside;
-    first = fits (length (columns j)) width_of (keeps_one j) keeps_is (taken j g.formed).extract.fit extract_small;
-    second = fits (length (columns j)) width_of (wants_one j) wants_is (taken j g.formed).query.fit query_small;
-  }
+  pub one_finds : {b : Zone} → b ≡ box (job_of k extract query) → FindsOne b extract.condition query.condition
+  one_finds is =
+      let nodes = box_nodes (columns j) (one j g.formed) is in
+      record {
+        some_node = nodes.0;
+        searches = record {
+          first = fits (length (columns j)) nodes.1 (keeps_one j) keeps_is (taken j g.formed).extract.fit extract_small;
+          second = fits (length (columns j)) nodes.1 (wants_one j) wants_is (taken j g.formed).query.fit query_small;
+        };
+      }
 
   -- ---- the columns and their twins
   pub query_outputs : query.width ≤ 16
@@ -215,7 +209,7 @@ module _ {k : Columns} {extract query : Expression} {rows : TwinRows} (u : Decid
     second_in = λ c h. let l : c < length (columns j) = omega (arith, width_of) in omega (arith, columns_is, twin_is c l, twin_below j g.formed c l);
   }
 
-  pub partners : Partners rows.columns (take query.width query.outputs) rows.twin
+  partners : Partners rows.columns (take query.width query.outputs) rows.twin
   partners = rw outputs_are (record {
     small = λ i h. omega (arith, declared i h, (taken j g.formed).few_columns);
     first_in = λ i h. omega (arith, columns_is, column_below j g.formed (at j.query.outputs i) (declared i h));
@@ -250,34 +244,49 @@ module _ {k : Columns} {extract query : Expression} {rows : TwinRows} (u : Decid
       ∙ twins_renamed (columns j) j.extract.outputs c (subst (λ (k : model.Condition). T (condition_fits (length (columns j)) k)) (sym same) fit)
       ∙ ap (renamed (twin j)) same
 
-  -- ---- b has the box of two rows as one
+  wants_other_is : {wants : Condition} → wants ≡ renamed_condition rows.twin query.condition → condition_of wants ≡ wants_other j
+  wants_other_is wanted = ap condition_of wanted ∙ second query.condition (wants_one j) wants_is (taken j g.formed).query.fit
+
+  -- ---- b is the box of two rows as one
   module _ {keeps : Condition} (kept : keeps ≡ renamed_condition rows.twin extract.condition) where
     keeps_other_is : condition_of keeps ≡ keeps_other j
     keeps_other_is = ap condition_of kept ∙ second extract.condition (keeps_one j) keeps_is (taken j g.formed).extract.fit
 
-    keeps_fits : ConditionFits rows.columns keeps
-    keeps_fits = fits (length (both_bounds j)) columns_is (keeps_other j) keeps_other_is (keeps_other_lem j g.formed)
-        (rw kept (renamed_small rows.twin extract.condition extract_small))
+    module _ {b : Zone} (is : b ≡ box2 (job_of k extract query)) where
+      nodes : (0 < length b) × (columns_of b ≡ length (both_bounds j))
+      nodes = box_nodes (both_bounds j) (two j g.formed) is
 
-    pub two_searches : {b : List ℕ} → InArray (rows.columns + 1) b → Searches rows.columns b keeps query.condition
-    two_searches inside = record {
-      in_array = inside;
-      first = keeps_fits;
-      second = fits (length (both_bounds j)) columns_is (wants_one j) wants_is (wants_one_lem j g.formed) query_small;
-    }
+      same_columns : columns_of b ≡ rows.columns
+      same_columns = nodes.1 ∙ sym columns_is
 
-    -- ---- the columns that aren't fixed
-    pub marks_two : {b y : List ℕ} → InArray (rows.columns + 1) b → (rows.columns + 1) * 33 ≤ length y → {w : ℕ} → w ≡ k.width
-        → Marks rows.columns b extract.condition keeps w rows.twin y
-    marks_two inside room wide = rw wide record {
-      searches = record {
-        in_array = inside;
-        first = fits (length (both_bounds j)) columns_is (keeps_one j) keeps_is (keeps_one_lem j g.formed) extract_small;
-        second = keeps_fits;
-      };
-      paired = paired;
-      room = room;
-    }
+      keeps_fits : ConditionFits (columns_of b) keeps
+      keeps_fits = fits (length (both_bounds j)) nodes.1 (keeps_other j) keeps_other_is (keeps_other_lem j g.formed)
+          (rw kept (renamed_small rows.twin extract.condition extract_small))
+
+      pub two_finds : {wants : Condition} → wants ≡ renamed_condition rows.twin query.condition
+          → FindsTwo b rows keeps query.condition wants (take query.width query.outputs)
+      two_finds wanted = record {
+        finds = record {
+          some_node = nodes.0;
+          searches = record {
+            first = keeps_fits;
+            second = fits (length (both_bounds j)) nodes.1 (wants_one j) wants_is (wants_one_lem j g.formed) query_small;
+          };
+        };
+        third = fits (length (both_bounds j)) nodes.1 (wants_other j) (wants_other_is wanted) (wants_other_lem j g.formed)
+            (rw wanted (renamed_small rows.twin query.condition query_small));
+        partners = rw same_columns partners;
+      }
+
+      -- ---- the columns that aren't fixed
+      pub marks_two : {w : ℕ} → w ≡ k.width → Marks b extract.condition keeps w rows.twin
+      marks_two wide = record {
+        searches = record {
+          first = fits (length (both_bounds j)) nodes.1 (keeps_one j) keeps_is (keeps_one_lem j g.formed) extract_small;
+          second = keeps_fits;
+        };
+        paired = rw (wide, same_columns) paired;
+      }
 
     pub finds_unfixed : (z : Zone) → z ≡ box2 (job_of k extract query) → (c : ℕ) → c < k.width
         → is_some (pairs_of z (condition_of extract.condition) (condition_of keeps) (if_differ c (at rows.twin c))) ≡ unfixed_in (job_of k extract query) c
@@ -285,21 +294,14 @@ module _ {k : Columns} {extract query : Expression} {rows : TwinRows} (u : Decid
     finds_unfixed z is c h = rw (is, keeps_other_is, keeps_is, twin_is c (omega (arith, width_of)))
 
     module _ {wants : Condition} (wanted : wants ≡ renamed_condition rows.twin query.condition) where
-      wants_other_is : condition_of wants ≡ wants_other j
-      wants_other_is = ap condition_of wanted ∙ second query.condition (wants_one j) wants_is (taken j g.formed).query.fit
-
-      pub wants_fits : ConditionFits rows.columns wants
-      wants_fits = fits (length (both_bounds j)) columns_is (wants_other j) wants_other_is (wants_other_lem j g.formed)
-          (rw wanted (renamed_small rows.twin query.condition query_small))
-
       pub finds_two : (z : Zone) → z ≡ box2 (job_of k extract query)
           → (without z (condition_of keeps) (condition_of query.condition) (condition_of wants) ≡ found3 (job_of k extract query))
           × (pairs_of z (condition_of query.condition) (condition_of wants) (some_apart (at rows.twin) (take query.width query.outputs))
           ≡ found4 (job_of k extract query))
       unfolding found3 found4
       finds_two z is = (
-        rw (is, keeps_other_is, wants_other_is, wants_is),
-        rw (is, wants_other_is, wants_is, outputs_are) (pairs_cong (box2 j) (wants_one j) (wants_other j) (some_apart (at rows.twin) j.query.outputs)
+        rw (is, keeps_other_is, wants_other_is wanted, wants_is),
+        rw (is, wants_other_is wanted, wants_is, outputs_are) (pairs_cong (box2 j) (wants_one j) (wants_other j) (some_apart (at rows.twin) j.query.outputs)
             (some_apart (twin j) j.query.outputs)
             (apart_cong (at rows.twin) (twin j) j.query.outputs (λ c m. twin_is c (outputs_declared (taken j g.formed).query c m)))),
       )
@@ -326,16 +328,20 @@ module _ {k : Columns} {extract query : Expression} {rows : TwinRows} (u : Decid
   pub lists_columns : ListsColumns k extract
   lists_columns = record { width = width_most; tables = few_used.first; stored = outputs_fit j.extract extract (extract_is r g.laid) size.extract }
 
-  pub pairs_one : {d : List ℕ} → HasLeast k.width d → PairsOne k extract query d
-  pairs_one least = record { makes = record { few = few_tables; extract_used = few_used.first; query_used = few_used.second }; least = least }
+  pub pairs_one : {z : Zone} → columns_of z ≡ k.width → HasLeast z → PairsOne k extract query z
+  pairs_one same least = record {
+    makes = record { few = few_tables; extract_used = few_used.first; query_used = few_used.second };
+    first_in = omega (arith, same);
+    least = least;
+  }
 
-  pub pairs_two : {d : List ℕ} → HasLeast rows.columns d → PairsTwo k query rows d
-  pairs_two least =
+  pub pairs_two : {z : Zone} → columns_of z ≡ rows.columns → HasLeast z → PairsTwo k query rows.twin z
+  pairs_two same least =
       let stands = twins_stand (columns j) j.extract.outputs few_declared in
       record {
         few = few_tables;
         query_used = few_used.second;
-        first_in = width_below;
+        first_in = omega (arith, same, width_below);
         second_in = record { few = width_most; stand = λ c h. rw both_is (stands.stand c (omega (arith, width_of))) };
         least = least;
       }

@@ -1,8 +1,8 @@
--- A zone of rows lies in an array as the functions ask, and its least row can be read from there. Assumes nothing.
+-- The least row of a zone has values of 32 bits, and so can be read. Assumes nothing.
 use mathlib.Core.Path.{◌≡◌, sym, ap, ◌∙◌}
 use mathlib.Core.Bool.{Bool}
 use mathlib.Core.List.{List}
-use Prim.Native.Nat.{ℕ, suc, ◌+◌, ◌*◌, ◌<◌, ◌≤◌}
+use Prim.Native.Nat.{ℕ, suc, ◌+◌, ◌<◌}
 use native.Mathlib.Omega.{arith}
 use native.Mathlib.Numerals.{add-one}
 use lib.ListN.{length, get_or}
@@ -22,12 +22,9 @@ use Rattle.model.specs.Tables.{Row, value, inside, within}
 use Rattle.model.specs.declared.Bounds.{Bounds}
 use Rattle.model.specs.WellFormed.{in_range}
 use Rattle.zone.specs.Zone.{Zone, least_of}
-use Rattle.zone.specs.Array.{zone_in, laid}
-use Rattle.zone.specs.Uses.{InArray}
 use Rattle.zone.proofs.Closed.{least_length, least_meets}
-use Rattle.zone.proofs.Laid.{laid_is, laid_in_array}
 use Rattle.solver.specs.Solver.{row_of}
-use Rattle.solver.specs.Uses.{WordNodes, LeastRoom}
+use Rattle.solver.specs.Uses.{WordNodes}
 use Rattle.solver.proofs.Nodes.{map_at}
 use Rattle.conditions.proofs.Stands.{Stands}
 
@@ -47,37 +44,21 @@ module _ (bs : List Bounds) (range : T (all_of near bs)) where
       range_word (value r c) (inside_range (get_or bs c none) (all_has near (element bs c none h) range) (value r c)
       (pairwise_at inside bs r none (pos 0) w c h))
 
--- ---- in an array
-module _ (bs : List Bounds) (small : length bs ≤ 32) (p : Row → Bool) (z : Zone) (s : Stands bs p z) where
+-- ---- of the rows of a zone
+module _ (bs : List Bounds) (p : Row → Bool) (z : Zone) (s : Stands bs p z) (range : T (all_of near bs)) where
   long : length z ≡ length bs + 1
   long = s.size ∙ sym (add-one (length bs))
 
-  -- laid there
-  module _ (d : List ℕ) (room : (length bs + 1) * 33 ≤ length d) where
-    pub stands_in_array : InArray (length bs + 1) (laid d z)
-    stands_in_array = laid_in_array (length bs + 1) d z room (omega arith) s.closed long
-
-    pub stands_zone : zone_in (length bs + 1) (laid d z) ≡ z
-    stands_zone = laid_is (length bs + 1) d z room (omega arith) s.closed long
-
-  module _ (range : T (all_of near bs)) (row : List ℤ) (size : length row ≡ length bs) where
-    least_words : WordNodes (least_of z) row
-    least_words =
-        let x = least_of z in
-        let (w, e) = s.back x (least_meets z s.closed) in
-        let r = row_of x in
-        let node : (i : ℕ) → i < length row → at x (suc i) ≡ biased bias (value r i)
-        = λ i h. ap (λ (x : List ℕ). at x (suc i)) (sym e) ∙ map_at r i (omega (arith, pairwise_length inside bs r w)) in
-        let word : (i : ℕ) → i < length row → mag (value r i) < sign_bit 4 = λ i h. within_word bs range r w i (omega arith) in
-        record {
-          size = least_length z s.closed ∙ long ∙ ap (λ (n : ℕ). n + 1) (sym size);
-          low = λ i h. omega (arith, node i h, biased_low bias (sign_bit 4) (value r i) (word i h));
-          high = λ i h. omega (arith, node i h, biased_high bias (sign_bit 4) (value r i) (word i h));
-        }
-
-    -- the zone lies in d
-    pub least_room : (d : List ℕ) → (length bs + 1) * 33 ≤ length d → zone_in (length bs + 1) d ≡ z → LeastRoom d row
-    least_room d room there = record {
-      in_array = rw size (record { room = room; small = omega arith; closed = rw there s.closed });
-      words = rw (size, there) least_words;
-    }
+  pub least_words : (row : List ℤ) → length row ≡ length bs → WordNodes (least_of z) row
+  least_words row size =
+      let x = least_of z in
+      let (w, e) = s.back x (least_meets z s.closed) in
+      let r = row_of x in
+      let node : (i : ℕ) → i < length row → at x (suc i) ≡ biased bias (value r i)
+      = λ i h. ap (λ (x : List ℕ). at x (suc i)) (sym e) ∙ map_at r i (omega (arith, pairwise_length inside bs r w)) in
+      let word : (i : ℕ) → i < length row → mag (value r i) < sign_bit 4 = λ i h. within_word bs range r w i (omega arith) in
+      record {
+        size = least_length z s.closed ∙ long ∙ ap (λ (n : ℕ). n + 1) (sym size);
+        low = λ i h. omega (arith, node i h, biased_low bias (sign_bit 4) (value r i) (word i h));
+        high = λ i h. omega (arith, node i h, biased_high bias (sign_bit 4) (value r i) (word i h));
+      }

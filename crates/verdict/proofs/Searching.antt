@@ -1,7 +1,7 @@
 -- The search for rows that meet two conditions and not a third: what it asks, and what it finds by the ways that were laid. Assumes nothing.
 use mathlib.Core.Path.{◌≡◌}
 use mathlib.Core.Bool.{Bool}
-use mathlib.Core.List.{List, []}
+use mathlib.Core.List.{[]}
 use mathlib.Core.Option.{Option}
 use Prim.Native.Nat.{ℕ, zero, suc, ◌+◌, ◌<◌, ◌≤◌}
 use native.Mathlib.Omega.{arith}
@@ -9,9 +9,9 @@ use lib.ListN.{length, get_or}
 use Rattle.model.specs.Tables as model
 use Rattle.job.specs.declared.Condition.{Condition}
 use Rattle.job.specs.Meaning.{condition_of}
-use Rattle.zone.specs.Zone.{Zone}
+use Rattle.zone.specs.Zone.{Zone, columns_of}
 use Rattle.conditions.specs.Meeting.{always_record}
-use Rattle.conditions.specs.Uses.{ConditionFits, Searches}
+use Rattle.conditions.specs.Uses.{ConditionFits}
 use Rattle.conditions.proofs.Meeting.{Ends}
 use Rattle.breaking.specs.declared.Choices.{Choices}
 use Rattle.breaking.specs.Breaking.{choices_of}
@@ -22,7 +22,7 @@ use Rattle.breaking.proofs.Fitting.{choices_fit}
 use Rattle.search.specs.Search.{outside}
 use Rattle.search.specs.Uses.{SearchesOutside}
 use Rattle.verdict.specs.Found.{without}
-use Rattle.verdict.specs.Uses.{Lent}
+use Rattle.verdict.specs.Uses.{FindsOne}
 
 -- the condition that every row meets fits any columns
 pub always_fits : (n : ℕ) → ConditionFits n always_record
@@ -36,26 +36,23 @@ always_fits n = record { small = record { clauses = omega arith; comparisons = e
     each (suc (suc (suc (suc q)))) h = absurd (omega arith)
 
 -- c are the choices that were laid for the condition k
-module _ {n : ℕ} {k : Condition} (fits : ConditionFits n k) (c : Choices) (laid : choices_in c ≡ choices_of (condition_of k))
+module _ (z : Zone) {k : Condition} (fits : ConditionFits (columns_of z) k) (c : Choices) (laid : choices_in c ≡ choices_of (condition_of k))
     (size : c.clauses ≡ length (condition_of k)) where
-  pub outside_asks : FewWays c → {z : List ℕ} {a b : Condition} → Searches n z a b → {x y v w out : List ℕ} → Lent (n + 1) x y v w out
-      → (out' : List ℕ) → length out' ≡ length out → SearchesOutside n z a b c x y v w out'
-  outside_asks short s lent out' kept = record {
-    searches = s;
-    choices = choices_fit n (condition_of k) (small_from k fits.small).0 fits.fit c short laid;
-    few = omega (arith, size, (small_from k fits.small).0);
-    pair = lent.pair;
-    room = record {
-      first = lent.room.first;
-      second = lent.room.second;
-      third = lent.room.third;
-      found = omega (arith, kept, lent.room.found);
-    };
-  }
+  pub outside_asks : FewWays c → {a b : Condition} → FindsOne z a b → SearchesOutside z a b c
+  outside_asks short finds =
+      let few = (small_from k fits.small).0 in
+      let nodes : columns_of z + 1 ≡ length z = omega (arith, finds.some_node) in
+      record {
+        searches = finds.searches;
+        weighs = record {
+          choices = rw nodes at (choices_fit (columns_of z) (condition_of k) few fits.fit c short laid);
+          few = omega (arith, size, few);
+        };
+      }
 
-  pub outside_is : (z : Zone) (a b : model.Condition) → outside z a b c.clauses (choices_in c) ≡ without z a b (condition_of k)
-  outside_is z a b = rw (laid, size)
+  pub outside_is : (a b : model.Condition) → outside z a b c.clauses (choices_in c) ≡ without z a b (condition_of k)
+  outside_is a b = rw (laid, size)
 
 -- what is found, under another name
-pub ends_as : (m : ℕ) {o p : Option Zone} {r : Bool} (e : List ℕ) → o ≡ p → Ends m o r e → Ends m p r e
-ends_as m e is ends = rw is at ends
+pub ends_as : {o p : Option Zone} {r : Bool} (e : Zone) → o ≡ p → Ends o r e → Ends p r e
+ends_as e is ends = rw is at ends

@@ -1,14 +1,12 @@
 -- What the searches find, one row first and then two as one, is the kind of the job and its finding. Assumes nothing.
-use mathlib.Core.Path.{◌≡◌, refl, sym, ap, ◌∙◌}
+use mathlib.Core.Path.{◌≡◌, refl, sym, ◌∙◌}
 use mathlib.Core.Bool.{Bool, true, false, cond, ◌&&◌, false≢true}
-use mathlib.Core.List.{List}
-use mathlib.Core.Option.{Option, none, some}
-use Prim.Native.Nat.{ℕ, ◌+◌, ◌*◌, ◌<◌, ◌≤◌}
-use native.Mathlib.Omega.{arith}
-use lib.ListN.{length, take}
+use mathlib.Core.Option.{Option, none}
+use Prim.Native.Nat.{ℕ}
+use lib.ListN.{take}
 use lib.Dec.{eqb, eqb→eq}
 use denote.Enum.Bare.{sameb}
-use borrow.Author.Tests.{le-leb, lt-leb, eq-eqb}
+use borrow.Author.Tests.{eq-eqb}
 use Rattle.base.proofs.Tests.{is_T}
 use Rattle.base.specs.Lists.{at}
 use Rattle.base.specs.Options.{is_some, or_else}
@@ -24,31 +22,14 @@ use Rattle.job.specs.declared.Expression.{Expression}
 use Rattle.job.specs.Meaning.{condition_of, job_of, problem}
 use Rattle.job.proofs.Records.{Sized}
 use Rattle.zone.specs.Zone.{Zone}
-use Rattle.zone.specs.Array.{zone_in}
 use Rattle.conditions.specs.Meeting.{Lies}
-use Rattle.search.specs.Uses.{Room}
 use Rattle.twins.specs.declared.TwinRows.{TwinRows}
 use Rattle.twins.specs.Pairs.{some_apart}
 use Rattle.twins.specs.Records.{renamed_condition}
-use Rattle.databases.specs.Databases.{shown_columns}
 use Rattle.verdict.specs.Found.{box, box2, found1, found2, found3, found4, found_kind, finding, one_kind, one_found, two_kind, two_found}
-use Rattle.verdict.specs.Uses.{Lent, Decides}
+use Rattle.verdict.specs.Uses.{Decides}
 use Rattle.verdict.proofs.Finding.{finds_first, finds_second}
 use Rattle.verdict.proofs.Ready.{finds_met, finds_one, finds_two}
-
--- ---- the arrays, with room for m nodes and the length that they had
-pub lent : (n m : ℕ) → n ≤ m → (x : List ℕ) {y v w out : List ℕ} → (m + 1) * 33 ≤ length x → Room (m + 1) y v w out → {x' y' v' w' out' : List ℕ}
-    → length x' ≡ length x → length y' ≡ length y → length v' ≡ length v → length w' ≡ length w → length out' ≡ length out
-    → Lent (n + 1) x' y' v' w' out'
-lent n m few x pair room ex ey ev ew eo = record {
-  pair = omega (arith, ex);
-  room = record {
-    first = omega (arith, ey, room.first);
-    second = omega (arith, ev, room.second);
-    third = omega (arith, ew, room.third);
-    found = omega (arith, eo, room.found);
-  };
-}
 
 -- ---- whether a kind is Computable, by its number
 no_kind : (k : Kind) {b : Bool} → b ≡ sameb the_type k Computable → b ≡ eqb (number_of_kind k) 0
@@ -65,24 +46,13 @@ module _ (k : Kind) {b : Bool} (told : b ≡ sameb the_type k Computable) where
   pub some_found : b ≡ false → ¬ (number_of_kind k ≡ 0)
   some_found h z = false≢true (sym h ∙ no_kind k told ∙ eq-eqb (number_of_kind k) 0 z)
 
--- ---- which kinds a search shows
-one_most : (a b : Bool) → first_kind a b false false ≤ 2
-one_most true b = omega arith
-one_most false true = omega arith
-one_most false false = omega arith
-
-two_least : (a b : Option Zone) (y : Zone) → or_else a b ≡ some y → 2 < first_kind false false (is_some a) (is_some b)
-two_least (some x) b y e = omega arith
-two_least none (some x) y e = omega arith
-two_least none none y e = absurd (false≢true (ap is_some e))
-
 module _ {k : Columns} {extract query : Expression} {rows : TwinRows} (u : Decides k extract query rows) (size : Sized (problem k extract query)) where
   abbrev j : model.Job
   j = job_of k extract query
 
-  -- what is told of a kind and an array: it is the job's, and what was found lies there
-  abbrev pub Told : ℕ → List ℕ → Type 0
-  Told r e = (r ≡ found_kind (job_of k extract query)) × Lies (shown_columns k rows r + 1) (finding (job_of k extract query)) e
+  -- what is told of a kind and a zone: they are the job's, and what was found
+  abbrev pub Told : ℕ → Zone → Type 0
+  Told r e = (r ≡ found_kind (job_of k extract query)) × Lies (finding (job_of k extract query)) e
 
   -- z is the box of a row, and differ tells whether the tables differ
   module _ (z : Zone) (is : z ≡ box (job_of k extract query)) {differ : Bool} (tables : differ ≡ tables_differ (job_of k extract query)) where
@@ -97,15 +67,12 @@ module _ {k : Columns} {extract query : Expression} {rows : TwinRows} (u : Decid
     unfolding one_kind one_found
     one_is = rw (tables, finds_met u size z is, finds_one u size z is) (refl, refl)
 
-    pub told_first : {r : ℕ} (e : List ℕ) → r ≡ one_kind z differ (condition_of extract.condition) (condition_of query.condition) → ¬ (r ≡ 0)
-        → Lies (k.width + 1) (one_found z differ (condition_of extract.condition) (condition_of query.condition)) e → Told r e
+    pub told_first : {r : ℕ} (e : Zone) → r ≡ one_kind z differ (condition_of extract.condition) (condition_of query.condition) → ¬ (r ≡ 0)
+        → Lies (one_found z differ (condition_of extract.condition) (condition_of query.condition)) e → Told r e
     unfolding found_kind finding
     told_first {r} e r-is some-kind lies =
         let (kinds, finds) = finds_first (found2 j) (found3 j) (found4 j) (tables_differ j) (found1 j) (λ e. some-kind (r-is ∙ one_is.0 ∙ e)) in
-        let most : r ≤ 2 = omega (arith, r-is ∙ one_is.0, one_most (tables_differ j && is_some (found1 j)) (is_some (found2 j))) in (
-          r-is ∙ one_is.0 ∙ kinds,
-          λ y h. ap (λ (b : Bool). zone_in (cond b k.width rows.columns + 1) e) (le-leb r 2 most) ∙ lies y (one_is.1 ∙ finds ∙ h),
-        )
+        (r-is ∙ one_is.0 ∙ kinds, λ y h. lies y (one_is.1 ∙ finds ∙ h))
 
     -- no row was found; z2 is the box of two rows as one
     module _ {r₁ : ℕ} (r₁-is : r₁ ≡ one_kind z differ (condition_of extract.condition) (condition_of query.condition)) (no_kind : r₁ ≡ 0)
@@ -121,17 +88,13 @@ module _ {k : Columns} {extract query : Expression} {rows : TwinRows} (u : Decid
       unfolding two_kind two_found
       two_is = let (a, b) = finds_two u size kept wanted z2 is2 in rw (a, b) (refl, refl)
 
-      pub told_second : {r : ℕ} (e : List ℕ)
+      pub told_second : {r : ℕ} (e : Zone)
           → r ≡ two_kind z2 (condition_of keeps) (condition_of query.condition) (condition_of wants)
           (some_apart (at rows.twin) (take query.width query.outputs))
-          → Lies (rows.columns + 1) (two_found z2 (condition_of keeps) (condition_of query.condition) (condition_of wants)
+          → Lies (two_found z2 (condition_of keeps) (condition_of query.condition) (condition_of wants)
           (some_apart (at rows.twin) (take query.width query.outputs))) e
           → Told r e
       unfolding found_kind finding
       told_second {r} e r-is lies =
-          let (kinds, finds) = finds_second (found2 j) (found3 j) (found4 j) (tables_differ j) (found1 j) (sym (r₁-is ∙ one_is.0) ∙ no_kind) in (
-            r-is ∙ two_is.0 ∙ kinds,
-            λ y h.
-                let more : 2 < r = omega (arith, r-is ∙ two_is.0, two_least (found3 j) (found4 j) y (finds ∙ h)) in
-                ap (λ (b : Bool). zone_in (cond b k.width rows.columns + 1) e) (lt-leb r 2 more) ∙ lies y (two_is.1 ∙ finds ∙ h),
-          )
+          let (kinds, finds) = finds_second (found2 j) (found3 j) (found4 j) (tables_differ j) (found1 j) (sym (r₁-is ∙ one_is.0) ∙ no_kind) in
+          (r-is ∙ two_is.0 ∙ kinds, λ y h. lies y (two_is.1 ∙ finds ∙ h))

@@ -1,55 +1,49 @@
 // What follows from declared columns, an extract and a query before any data: the kind, the listing and the two databases.
 #![tactic(auto)]
 
-ghost use Rattle.std.specs.Prelude.{◌≡◌, ◌+◌};
+ghost use Rattle.std.specs.Prelude.{◌≡◌};
 ghost use Rattle.base.specs.Lists.{at};
 ghost use Rattle.model.specs.Answers.{number_of_kind};
 ghost use Rattle.job.specs.Meaning.{condition_of};
-ghost use Rattle.zone.specs.Array.{zone_in};
 ghost use Rattle.conditions.specs.Meeting.{Lies};
 ghost use Rattle.twins.specs.Pairs.{some_apart};
 ghost use Rattle.verdict.specs.Found.{one_kind, one_found, two_kind, two_found};
 ghost use Rattle.verdict.specs.Verdict.{IsVerdict};
-ghost use Rattle.verdict.specs.Uses.{FindsOne, FindsTwo, Given, DecidesSized, DecidesIn};
+ghost use Rattle.verdict.specs.Uses.{FindsOne, FindsTwo, Given, DecidesSized};
 
 use breaking::Choices;
 use databases::Database;
 use job::{Columns, Condition, Expression, Job};
 use model::{Held, Kind};
+use search::Scratch;
 use twins::TwinRows;
+use zone::Zone;
 
-// The numbers of an array for a zone of few columns: node 0 and up to twelve others.
+// The entries of a zone of few columns: node 0 and up to twelve others.
 const SMALL: usize = 13 * zone::WIDTH;
 
 // ---- The kind
 
-// Kind 1 or 2, and the rows of a zone that show it, or 0; `differ` says whether the used tables differ. Arrays are lent one by one, as in
-// crate search.
-fn find_one(
-    z: &[u64],
-    columns: usize,
+// Kind 1 or 2, and the rows of a zone that show it, or 0; `differ` says whether the used tables differ.
+fn find_one<const N: usize>(
+    z: &Zone<N>,
     differ: bool,
     keeps: &Condition,
     wants: &Condition,
     choices: &mut Choices,
-    x: &mut [u64],
-    y: &mut [u64],
-    v: &mut [u64],
-    w: &mut [u64],
-    out: &mut [u64],
+    on_way: &mut Scratch<N>,
+    out: &mut Zone<N>,
 ) -> Kind
-    requires { FindsOne columns z.now keeps.now wants.now x.old y.old v.old w.old out.old }
-    ensures kind { number_of_kind result ≡ one_kind (zone_in (columns + 1) z.now) differ (condition_of keeps.now) (condition_of wants.now) }
-    ensures zone { Lies (columns + 1) (one_found (zone_in (columns + 1) z.now) differ (condition_of keeps.now) (condition_of wants.now)) out.new }
+    requires { FindsOne z.now keeps.now wants.now }
+    ensures kind { number_of_kind result ≡ one_kind z.now differ (condition_of keeps.now) (condition_of wants.now) }
+    ensures zone { Lies (one_found z.now differ (condition_of keeps.now) (condition_of wants.now)) out.new }
 {
-    if differ && conditions::met(z, columns, wants, &mut *out) {
+    if differ && conditions::met(z, wants, out) {
         return Kind::TablesDiffer;
     }
     let always = conditions::always();
-    breaking::put_choices(keeps, &mut *choices);
-    if search::outside(
-        z, columns, &always, wants, &*choices, &mut *x, &mut *y, &mut *v, &mut *w, &mut *out,
-    ) {
+    breaking::put_choices(keeps, choices);
+    if search::outside(z, &always, wants, &*choices, on_way, out) {
         return Kind::RowNotKept;
     }
     Kind::Computable
@@ -57,40 +51,26 @@ fn find_one(
 
 // Kind 3 or 4, and two rows as one of a zone that show it, or 0. Kind 2 has been ruled out: a row that the query wants is one that the
 // extract keeps, so it is asked of the second row alone. Other rows are sought than in `find_one`, and only the search is shared.
-fn find_two(
-    z: &[u64],
+fn find_two<const N: usize>(
+    z: &Zone<N>,
     rows: &TwinRows,
     keeps: &Condition,
     wants: &Condition,
     others: &Condition,
     cs: &[u8],
     choices: &mut Choices,
-    x: &mut [u64],
-    y: &mut [u64],
-    v: &mut [u64],
-    w: &mut [u64],
-    out: &mut [u64],
+    on_way: &mut Scratch<N>,
+    out: &mut Zone<N>,
 ) -> Kind
-    requires { FindsTwo rows.now z.now keeps.now wants.now others.now cs.now x.old y.old v.old w.old out.old }
-    ensures kind { number_of_kind result ≡ two_kind (zone_in (rows.now.columns + 1) z.now) (condition_of keeps.now) (condition_of wants.now) (condition_of others.now) (some_apart (at rows.now.twin) cs.now) }
-    ensures zone { Lies (rows.now.columns + 1) (two_found (zone_in (rows.now.columns + 1) z.now) (condition_of keeps.now) (condition_of wants.now) (condition_of others.now) (some_apart (at rows.now.twin) cs.now)) out.new }
+    requires { FindsTwo z.now rows.now keeps.now wants.now others.now cs.now }
+    ensures kind { number_of_kind result ≡ two_kind z.now (condition_of keeps.now) (condition_of wants.now) (condition_of others.now) (some_apart (at rows.now.twin) cs.now) }
+    ensures zone { Lies (two_found z.now (condition_of keeps.now) (condition_of wants.now) (condition_of others.now) (some_apart (at rows.now.twin) cs.now)) out.new }
 {
-    breaking::put_choices(others, &mut *choices);
-    if search::outside(
-        z,
-        rows.columns,
-        keeps,
-        wants,
-        &*choices,
-        &mut *x,
-        &mut *y,
-        &mut *v,
-        &mut *w,
-        &mut *out,
-    ) {
+    breaking::put_choices(others, choices);
+    if search::outside(z, keeps, wants, &*choices, on_way, out) {
         return Kind::ConditionHidden;
     }
-    if rows.differ(z, wants, others, cs, &mut *out) {
+    if rows.differ(z, wants, others, cs, out) {
         return Kind::OutputHidden;
     }
     Kind::Computable
@@ -107,65 +87,58 @@ pub struct Verdict {
     pub second: Database,
 }
 
-// Decides in lent arrays, each of which holds a zone of two rows as one. Columns, extract and query stay three, as in a job's record: a
-// contract names one or two of them as often as all.
-fn decide_in(
+// Decides in zones of so many entries. Columns, extract and query stay three, as in a job's record: a contract names one or two of them as
+// often as all.
+fn decide_sized<const N: usize>(
     k: Columns,
     extract: Expression,
     query: Expression,
     rows: &TwinRows,
-    b: &mut [u64],
-    x: &mut [u64],
-    y: &mut [u64],
-    v: &mut [u64],
-    w: &mut [u64],
-    out: &mut [u64],
 ) -> Verdict
-    requires { DecidesIn k extract query rows.now b.old x.old y.old v.old w.old out.old }
+    requires { DecidesSized k extract query rows.now N }
     ensures { IsVerdict k extract query result }
 {
-    let keeps_other = rows.rename(extract.condition);
+    let mut z: Zone<N> = Zone::new();
+    let mut on_way: Scratch<N> = Scratch::new();
+    let mut out: Zone<N> = Zone::new();
     let mut choices = Choices::default();
-    solver::set_bounds(&mut *b, &rows.bounds[..k.width]);
+    let keeps = &extract.condition;
+    let wants = &query.condition;
+    let keeps_other = rows.rename(extract.condition);
     let differ = databases::tables_differ(&extract, &query);
+    solver::set_bounds(&mut z, &rows.bounds[..k.width]);
     let mut kind = find_one(
-        &*b,
-        k.width,
+        &z,
         differ,
-        &extract.condition,
-        &query.condition,
+        keeps,
+        wants,
         &mut choices,
-        &mut *x,
-        &mut *y,
-        &mut *v,
-        &mut *w,
-        &mut *out,
+        &mut on_way,
+        &mut out,
     );
-    solver::set_bounds(&mut *b, &rows.bounds[..rows.columns]);
+    solver::set_bounds(&mut z, &rows.bounds[..rows.columns]);
     if kind == Kind::Computable {
         let wants_other = rows.rename(query.condition);
+        let cs = &query.outputs[..query.width];
         kind = find_two(
-            &*b,
+            &z,
             rows,
             &keeps_other,
-            &query.condition,
+            wants,
             &wants_other,
-            &query.outputs[..query.width],
+            cs,
             &mut choices,
-            &mut *x,
-            &mut *y,
-            &mut *v,
-            &mut *w,
-            &mut *out,
+            &mut on_way,
+            &mut out,
         );
     }
-    let pair = databases::pair_of(&k, &extract, &query, rows, kind, &*out);
+    let pair = databases::pair_of(&k, &extract, &query, rows, kind, &out);
     let mut marks = [false; Job::COLUMNS];
     rows.mark_pairs(
-        &*b,
-        &extract.condition,
+        &z,
+        keeps,
         &keeps_other,
-        &mut *x,
+        &mut on_way.pair,
         &mut marks[..k.width],
     );
     Verdict {
@@ -176,33 +149,12 @@ fn decide_in(
     }
 }
 
-// Decides in arrays of so many numbers.
-fn decide_sized<const N: usize>(
-    k: Columns,
-    extract: Expression,
-    query: Expression,
-    rows: &TwinRows,
-) -> Verdict
-    requires { DecidesSized k extract query rows.now N }
-    ensures { IsVerdict k extract query result }
-{
-    let mut b = [0u64; N];
-    let mut x = [0u64; N];
-    let mut y = [0u64; N];
-    let mut v = [0u64; N];
-    let mut w = [0u64; N];
-    let mut out = [0u64; N];
-    decide_in(
-        k, extract, query, rows, &mut b, &mut x, &mut y, &mut v, &mut w, &mut out,
-    )
-}
-
 pub fn decide(k: Columns, extract: Expression, query: Expression) -> Verdict
     requires { Given k extract query }
     ensures { IsVerdict k extract query result }
 {
     let rows = TwinRows::of(&k, &extract.outputs[..extract.width]);
-    // With few columns in two rows as one, as nearly always, the arrays are small, since to zero them would take longer than all the rest.
+    // With few columns in two rows as one, as nearly always, the zones are small, since to zero them would take longer than all the rest.
     if rows.columns < 13 {
         return decide_sized::<SMALL>(k, extract, query, &rows);
     }

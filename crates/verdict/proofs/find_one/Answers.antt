@@ -1,12 +1,10 @@
 -- `verdict::find_one` meets its contract. Assumes nothing.
+use borrow.Author.Rules.{rules}
 use mathlib.Core.Path.{sym, ap, ◌∙◌}
 use mathlib.Core.Bool.{false≢true}
-use Prim.Native.Nat.{◌+◌}
-use lib.ListN.{length}
 use Rattle.base.proofs.Options.{none_of}
 use Rattle.job.specs.declared.Condition.{Condition}
 use Rattle.job.specs.Meaning.{condition_of}
-use Rattle.zone.specs.Array.{zone_in}
 use Rattle.verdict.specs.Found.{without}
 use Rattle.verdict.proofs.Searching.{always_fits, outside_asks, outside_is, ends_as}
 use Rattle.verdict.proofs.Finding.{passes, shows_1, shows_2, shows_neither}
@@ -14,48 +12,49 @@ use Rattle.verdict.proofs.find_one.Goals as goal
 use Rattle.verdict.proofs.find_one.Goals.{else-differ-via-then-differ+else-met, else-differ-via-else-differ}
 
 pub returns-then-met : goal.returns-then-met
-returns-then-met c =
-    let r = shows_1 (c.args.columns + 1) (zone_in (c.args.columns + 1) c.args.z.now) c.args.differ (condition_of c.args.keeps.now)
+returns-then-met g c =
+    let r = shows_1 c.args.z.now c.args.differ (condition_of c.args.keeps.now)
     (condition_of c.args.wants.now) _ c.if-differ.true (c.met.ensures.answer, c.met.ensures.zone) c.if-met.true in
     record { kind = r.0; zone = r.1 }
 
 pub outside-requires : goal.outside-requires
-outside-requires c =
-    let put = c.put_choices.ensures in
-    outside_asks c.requires.searches.first c.put_choices.new.choices put.ways put.size put.few
-    (record {
-      in_array = c.requires.searches.in_array;
-      first = rw c.always-always.ensures (always_fits _);
-      second = c.requires.searches.second;
-    }) c.requires.lent c.else-differ.out (elim c.else-differ.branch [
-      | else-differ-via-then-differ+else-met s ↦ ap length s.out-is ∙ s.met.auto.out
-      | else-differ-via-else-differ s ↦ ap length s.out-is
-    ])
+outside-requires g c =
+    let put = c.put_choices.ensures in (
+      search rules,
+      (
+        search rules,
+        outside_asks _ c.requires.searches.first c.put_choices.new.choices put.ways put.size put.few
+            (record {
+              some_node = c.requires.some_node;
+              searches = record { first = rw c.always-always.ensures (always_fits _); second = c.requires.searches.second };
+            }),
+      ),
+    )
 
 pub returns-then-outside : goal.returns-then-outside
-returns-then-outside c =
-    let z = zone_in (c.args.columns + 1) c.args.z.now in
+returns-then-outside g c =
+    let z = c.args.z.now in
     let keeps = condition_of c.args.keeps.now in let wants = condition_of c.args.wants.now in
     let put = c.put_choices.ensures in
-    let r = shows_2 (c.args.columns + 1) z c.args.differ keeps wants _
+    let r = shows_2 z c.args.differ keeps wants _
     (passes z c.args.differ wants (λ yes'. elim c.else-differ.branch [
       | else-differ-via-then-differ+else-met s ↦ none_of _ s.met.ensures.answer s.if-met.false
       | else-differ-via-else-differ s ↦ absurd (false≢true (sym s.if-differ.false ∙ yes'))
-    ])) (ends_as _ _ (outside_is c.requires.searches.first c.put_choices.new.choices put.ways put.size z (condition_of c.always-always.result) wants
+    ])) (ends_as _ (outside_is z c.requires.searches.first c.put_choices.new.choices put.ways put.size (condition_of c.always-always.result) wants
     ∙ ap (λ (k : Condition). without z (condition_of k) wants keeps) c.always-always.ensures) (c.outside.ensures.answer, c.outside.ensures.zone))
     c.if-outside.true in
     record { kind = r.0; zone = r.1 }
 
 pub returns : goal.returns
-returns c =
-    let z = zone_in (c.args.columns + 1) c.args.z.now in
+returns g c =
+    let z = c.args.z.now in
     let keeps = condition_of c.args.keeps.now in let wants = condition_of c.args.wants.now in
     let put = c.put_choices.ensures in
-    let r = shows_neither (c.args.columns + 1) z c.args.differ keeps wants _
+    let r = shows_neither z c.args.differ keeps wants _
     (passes z c.args.differ wants (λ yes'. elim c.else-differ.branch [
       | else-differ-via-then-differ+else-met s ↦ none_of _ s.met.ensures.answer s.if-met.false
       | else-differ-via-else-differ s ↦ absurd (false≢true (sym s.if-differ.false ∙ yes'))
-    ])) (ends_as _ _ (outside_is c.requires.searches.first c.put_choices.new.choices put.ways put.size z (condition_of c.always-always.result) wants
+    ])) (ends_as _ (outside_is z c.requires.searches.first c.put_choices.new.choices put.ways put.size (condition_of c.always-always.result) wants
     ∙ ap (λ (k : Condition). without z (condition_of k) wants keeps) c.always-always.ensures) (c.outside.ensures.answer, c.outside.ensures.zone))
     c.if-outside.false in
     record { kind = r.0; zone = r.1 }
