@@ -1,5 +1,6 @@
 -- Databases of at most one row in each table, as the code holds them.
-use Rattle.std.specs.Prelude.{◌≡◌, Bool, false, cond, ◌&&◌, List, [], ◌∷◌, map, ℕ, ◌<◌, ◌≤◌, length, get_or, take, replicate, ℤ, pos, eqb, leb}
+use Rattle.std.specs.Prelude.{◌≡◌, Bool, false, cond, ◌&&◌, List, [], ◌∷◌, map, ℕ, ◌<◌, ◌≤◌, ℤ, pos, eqb, leb}
+use Rattle.std.specs.Prelude.{length, get_or, take, replicate}
 use Rattle.base.specs.Lists.{at, tabulate}
 use Rattle.base.specs.Arrays.{padded}
 use Rattle.model.specs.Tables as model

@@ -45,12 +45,7 @@ fn uses_other(e: &Expression, f: &Expression) -> bool
     requires { UsesFew e.now f.now }
     ensures { result ≡ uses_other (expression_of e.now) (expression_of f.now) }
 {
-    for t in &e.used[..e.tables] {
-        if !uses(f, *t) {
-            return true;
-        }
-    }
-    false
+    e.used[..e.tables].iter().any(|t| !uses(f, *t))
 }
 
 // Whether two expressions use different tables.

@@ -1,29 +1,28 @@
-use native.Mathlib.Omega.{arith}
-use mathlib.Core.Path.{refl, sym, ap, ◌∙◌}
+-- `databases::uses_other` meets its contract. Assumes nothing.
+use mathlib.Core.Path.{◌≡◌, refl, ◌∙◌}
 use mathlib.Core.Bool.{Bool, not}
+use mathlib.Core.List.{List, [], ◌∷◌}
 use Prim.Native.Nat.{ℕ}
-use Rattle.base.proofs.Turns.{any_here, any_more, any_done}
+use lib.ListN.{take}
+use borrow.Author.Rules.{rules}
+use Rattle.std.specs.List.{list_any}
+use Rattle.std.proofs.lemmas.Iterator.{YieldsList-from_slice}
+use Rattle.std.proofs.lemmas.Iterator.Search.{any_from_yields_List}
+use Rattle.base.specs.Lists.{any_of}
 use Rattle.model.specs.Tables.{uses}
 use Rattle.model.specs.Verdict.{uses_other}
-use Rattle.job.specs.declared.Expression.{Expression}
 use Rattle.job.specs.Meaning.{expression_of}
 use Rattle.databases.proofs.uses_other.Goals as goal
 
-abbrev missing : Expression → ℕ → Bool
-missing f t = not (uses (expression_of f) t)
-
-pub loop-t-init : goal.loop-t-init
-loop-t-init c = refl
-
-pub returns-then-not-uses : goal.returns-then-not-uses
-unfolding uses_other expression_of
-returns-then-not-uses c = any_here (missing c.args.f.now) 0 _ c.loop-t.t-index c.loop-t.invariant c.loop-t-test.true
-    (ap not (sym c.uses.ensures) ∙ c.if-not-uses.true-raw)
-
-pub loop-t-preserved : goal.loop-t-preserved
-loop-t-preserved c = any_more (missing c.args.f.now) 0 _ c.loop-t.t-index c.loop-t.invariant c.loop-t-test.true
-    (ap not (sym c.uses.ensures) ∙ c.if-not-uses.false-raw)
+-- what the library's word says is what the definition's does
+any_is : (p : ℕ → Bool) (xs : List ℕ) → list_any p xs ≡ any_of p xs
+any_is p [] = refl
+any_is p (x ∷ xs) = rw (any_is p xs)
 
 pub returns : goal.returns
 unfolding uses_other expression_of
-returns c = any_done (missing c.args.f.now) 0 _ c.loop-t.t-index c.loop-t.invariant (omega (arith, c.loop-t-test.false))
+returns c =
+    let missing : ℕ → Bool = λ t. not (uses (expression_of c.args.f.now) t) in
+    let used = take c.args.e.now.tables c.args.e.now.used in
+    any_from_yields_List missing _ _ _ c.any.ensures.ran (YieldsList-from_slice used c.iter.ensures.rest) (λ x b q k. search rules)
+    ∙ any_is missing used
