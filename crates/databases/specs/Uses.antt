@@ -7,47 +7,34 @@ use Rattle.job.specs.declared.Columns.{Columns}
 use Rattle.twins.specs.Uses.{TwinsStand}
 use Rattle.databases.specs.Databases.{table_at}
 
--- two expressions whose used tables are no more than their arrays hold
-pub record UsesFew (e f : Expression) : Type 0 where
-  pub first : e.tables ≤ 4
-  pub second : f.tables ≤ 4
-
 -- columns and their tables are no more than there can be
 pub record TablesFew (k : Columns) : Type 0 where
   pub width : k.width ≤ 16
   pub tables : (c : ℕ) → c < k.width → table_at k.columns c < 4
-
--- rows of these columns are made databases
-pub record MakesDatabases (k : Columns) (extract query : Expression) : Type 0 where
-  pub few : TablesFew k
-  pub extract_used : extract.tables ≤ 4
-  pub query_used : query.tables ≤ 4
 
 -- a zone whose least row's values are of 32 bits
 abbrev pub HasLeast : Zone → Type 0
 HasLeast z = (row : List ℤ) → length row ≡ columns_of z → WordNodes (least_of z) row
 
 -- and the zone that was found: of these columns
-pub record PairsOne (k : Columns) (extract query : Expression) (z : Zone) : Type 0 where
-  pub makes : MakesDatabases k extract query
+pub record PairsOne (k : Columns) (z : Zone) : Type 0 where
+  pub few : TablesFew k
   pub first_in : k.width ≤ columns_of z
   pub least : HasLeast z
 
 -- of the columns of two rows as one
-pub record PairsTwo (k : Columns) (query : Expression) (twin : List ℕ) (z : Zone) : Type 0 where
+pub record PairsTwo (k : Columns) (twin : List ℕ) (z : Zone) : Type 0 where
   pub few : TablesFew k
-  pub query_used : query.tables ≤ 4
   pub first_in : k.width ≤ columns_of z
   pub second_in : TwinsStand twin k.width
   pub least : HasLeast z
 
 -- of those that the kind calls for
-pub record PairsBy (k : Columns) (extract query : Expression) (twin : List ℕ) (kind : ℕ) (z : Zone) : Type 0 where
-  pub one : 0 < kind → kind < 3 → PairsOne k extract query z
-  pub two : 3 ≤ kind → PairsTwo k query twin z
+pub record PairsBy (k : Columns) (twin : List ℕ) (kind : ℕ) (z : Zone) : Type 0 where
+  pub one : 0 < kind → kind < 3 → PairsOne k z
+  pub two : 3 ≤ kind → PairsTwo k twin z
 
 -- columns that are listed
 pub record ListsColumns (k : Columns) (extract : Expression) : Type 0 where
   pub width : k.width ≤ 16
-  pub tables : extract.tables ≤ 4
   pub stored : extract.width ≤ 16

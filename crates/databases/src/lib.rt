@@ -10,7 +10,7 @@ ghost use Rattle.job.specs.Meaning.{expression_of};
 ghost use Rattle.databases.specs.Databases.{no_database, database_record, present_in, row_record, reduced_record};
 ghost use Rattle.databases.specs.Databases.{least_in, one_pair, two_pair, pair_record};
 ghost use Rattle.databases.specs.Listing.{listed_at, listed_by};
-ghost use Rattle.databases.specs.Uses.{UsesFew, TablesFew, MakesDatabases, HasLeast, PairsOne, PairsTwo, PairsBy, ListsColumns};
+ghost use Rattle.databases.specs.Uses.{TablesFew, HasLeast, PairsOne, PairsTwo, PairsBy, ListsColumns};
 
 use job::{Columns, Expression, Job};
 use model::{Held, Kind};
@@ -34,23 +34,20 @@ pub struct Pair {
 // ---- Tables
 
 fn uses(e: &Expression, t: u8) -> bool
-    requires { e.now.tables ≤ 4 }
     ensures { result ≡ uses (expression_of e.now) t }
 {
-    e.used[..e.tables].contains(&t)
+    e.used_tables().contains(&t)
 }
 
 // Whether an expression uses a table that another doesn't.
 fn uses_other(e: &Expression, f: &Expression) -> bool
-    requires { UsesFew e.now f.now }
     ensures { result ≡ uses_other (expression_of e.now) (expression_of f.now) }
 {
-    e.used[..e.tables].iter().any(|t| !uses(f, *t))
+    e.used_tables().iter().any(|t| !uses(f, *t))
 }
 
 // Whether two expressions use different tables.
 pub fn tables_differ(e: &Expression, f: &Expression) -> bool
-    requires { UsesFew e.now f.now }
     ensures { result ≡ (uses_other (expression_of e.now) (expression_of f.now) || uses_other (expression_of f.now) (expression_of e.now)) }
 {
     uses_other(e, f) || uses_other(f, e)
@@ -59,7 +56,6 @@ pub fn tables_differ(e: &Expression, f: &Expression) -> bool
 // ---- Databases
 
 fn both_use(e: &Expression, f: &Expression, t: u8) -> bool
-    requires { UsesFew e.now f.now }
     ensures { result ≡ (uses (expression_of e.now) t && uses (expression_of f.now) t) }
 {
     uses(e, t) && uses(f, t)
@@ -67,7 +63,6 @@ fn both_use(e: &Expression, f: &Expression, t: u8) -> bool
 
 // The tables that both expressions use.
 fn present(e: &Expression, f: &Expression) -> [bool; Job::TABLES]
-    requires { UsesFew e.now f.now }
     ensures { result ≡ present_in (expression_of e.now) (expression_of f.now) }
 {
     [
@@ -102,7 +97,7 @@ pub fn no_database() -> Database
 
 // A row in each table that the query uses.
 fn row_database(k: &Columns, query: &Expression, row: [i32; Job::COLUMNS]) -> Database
-    requires { TablesFew k.now × (query.now.tables ≤ 4) }
+    requires { TablesFew k.now }
     ensures { result ≡ row_record k.now query.now row }
 {
     database_of(k, present(query, query), row)
@@ -115,7 +110,7 @@ fn reduced_database(
     query: &Expression,
     row: [i32; Job::COLUMNS],
 ) -> Database
-    requires { MakesDatabases k.now extract.now query.now }
+    requires { TablesFew k.now }
     ensures { result ≡ reduced_record k.now extract.now query.now row }
 {
     if !uses_other(query, extract) {
@@ -145,7 +140,7 @@ fn one_row_pair<const N: usize>(
     kind: Kind,
     z: &Zone<N>,
 ) -> Pair
-    requires { PairsOne k.now extract.now query.now z.now }
+    requires { PairsOne k.now z.now }
     ensures { result ≡ one_pair k.now extract.now query.now (number_of_kind kind) (least_in z.now) }
 {
     let row = twins::first_row(least_of(z), k.width);
@@ -164,7 +159,7 @@ fn two_row_pair<const N: usize>(
     rows: &TwinRows,
     z: &Zone<N>,
 ) -> Pair
-    requires { PairsTwo k.now query.now rows.now.twin z.now }
+    requires { PairsTwo k.now rows.now.twin z.now }
     ensures { result ≡ two_pair k.now query.now rows.now.twin (least_in z.now) }
 {
     let least = least_of(z);
@@ -185,7 +180,7 @@ pub fn pair_of<const N: usize>(
     kind: Kind,
     z: &Zone<N>,
 ) -> Pair
-    requires { PairsBy k.now extract.now query.now rows.now.twin (number_of_kind kind) z.now }
+    requires { PairsBy k.now rows.now.twin (number_of_kind kind) z.now }
     ensures { result ≡ pair_record k.now extract.now query.now rows.now.twin (number_of_kind kind) (least_in z.now) }
 {
     match kind {

@@ -93,19 +93,19 @@ table_below (b ∷ bs) c h = go (ltb c (length b)) refl (table_below bs (c - len
     go false e f = omega (arith, f (omega (arith, length-append b (columns_of bs), ltb-false c (length b) e)))
 
 module _ (r : Job) (laid : record_of (meaning_of r) ≡ r) where
-  pub tables_fit : r.tables ≤ 4
+  pub tables_fit : r.declared.tables ≤ 4
   unfolding job_of
   tables_fit =
-      omega (arith, tables_are r laid, length-map (take r.tables table_numbers) (table_in (take r.width r.columns)), length-take r.tables table_numbers)
+      omega (arith, tables_are r laid, length-map (take r.declared.tables table_numbers) (table_in (take r.declared.width r.declared.columns)), length-take r.declared.tables table_numbers)
 
-  pub tables_below : (c : ℕ) (d : Column) → c < r.width → (get_or r.columns c d).table < 4
+  pub tables_below : (c : ℕ) (d : Column) → c < r.declared.width → (get_or r.declared.columns c d).table < 4
   tables_below c d h = omega (arith, table_is r laid c d h, table_below (meaning_of r).tables c (omega (arith, width_is r laid)), tables_are r laid, tables_fit)
 
-  pub width_fits : Sized r → r.width ≤ 16
+  pub width_fits : Sized r → r.declared.width ≤ 16
   width_fits size =
       omega (
         arith,
         width_is r laid,
         columns_length 0 (meaning_of r).tables,
-        padded_holds 16 no_column (column_records 0 (meaning_of r).tables) r.columns 16 (columns_are r laid) size.columns,
+        padded_holds 16 no_column (column_records 0 (meaning_of r).tables) r.declared.columns 16 (columns_are r laid) size.columns,
       )

@@ -63,25 +63,25 @@ module _ (r : Job) (laid : record_of (meaning_of r) ≡ r) where
   abbrev ts : List Table
   ts = (meaning_of r).tables
 
-  pub tables_are : r.tables ≡ length ts
+  pub tables_are : r.declared.tables ≡ length ts
   unfolding record_of
-  tables_are = ap (λ (x : Job). x.tables) (sym laid)
+  tables_are = ap (λ (x : Job). x.declared.tables) (sym laid)
 
-  pub width_is : r.width ≡ length (columns_of ts)
+  pub width_is : r.declared.width ≡ length (columns_of ts)
   unfolding record_of
-  width_is = ap (λ (x : Job). x.width) (sym laid)
+  width_is = ap (λ (x : Job). x.declared.width) (sym laid)
 
-  pub columns_are : r.columns ≡ padded 16 no_column (column_records 0 ts)
+  pub columns_are : r.declared.columns ≡ padded 16 no_column (column_records 0 ts)
   unfolding record_of
-  columns_are = ap (λ (x : Job). x.columns) (sym laid)
+  columns_are = ap (λ (x : Job). x.declared.columns) (sym laid)
 
-  pub bounds_are : map bounds_of (take r.width r.columns) ≡ columns_of ts
+  pub bounds_are : map bounds_of (take r.declared.width r.declared.columns) ≡ columns_of ts
   bounds_are =
-      ap (λ (cs : List Column). map bounds_of (take r.width cs)) columns_are
-      ∙ ap (map bounds_of) (take_padded 16 no_column (column_records 0 ts) r.width (width_is ∙ sym (columns_length 0 ts)))
+      ap (λ (cs : List Column). map bounds_of (take r.declared.width cs)) columns_are
+      ∙ ap (map bounds_of) (take_padded 16 no_column (column_records 0 ts) r.declared.width (width_is ∙ sym (columns_length 0 ts)))
       ∙ bounds_back 0 ts
 
-  pub table_is : (c : ℕ) (d : Column) → c < r.width → (get_or r.columns c d).table ≡ table_of ts c
+  pub table_is : (c : ℕ) (d : Column) → c < r.declared.width → (get_or r.declared.columns c d).table ≡ table_of ts c
   table_is c d h =
       ap (λ (cs : List Column). (get_or cs c d).table) columns_are ∙ column_of ts c d (omega (arith, width_is))
 

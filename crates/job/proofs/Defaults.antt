@@ -11,6 +11,7 @@ use Rattle.job.specs.declared.Comparison.{Comparison}
 use Rattle.job.specs.declared.Clause.{Clause}
 use Rattle.job.specs.declared.Condition.{Condition}
 use Rattle.job.specs.declared.Expression.{Expression}
+use Rattle.job.specs.declared.Columns.{Columns}
 use Rattle.job.specs.declared.Job.{Job}
 use Rattle.job.specs.Record.{no_column, no_comparison, no_clause, no_condition, no_expression, no_job}
 
@@ -21,12 +22,12 @@ filled d each xs n h =
     (λ i lt. let below : i < n = rw (sym h.long) lt in each _ (h.at i d below) ∙ sym (get_or-replicate n i d d below))
 
 abbrev IsColumn : Column → Type 0
-IsColumn x = (x.table ≡ 0) × ((x.lo ≡ pos 0) × (x.hi ≡ pos 0))
+IsColumn x = (x.table ≡ 0) × ((x.bounds.lo ≡ pos 0) × (x.bounds.hi ≡ pos 0))
 
 column_is : (x : Column) → IsColumn x → x ≡ no_column
 column_is x h =
     let a = h.0 in let b = h.1.0 in let c = h.1.1 in
-    let all : ◌≡◌ {A = Column} (record { table = x.table; lo = x.lo; hi = x.hi }) no_column = cc in all
+    let all : ◌≡◌ {A = Column} (record { table = x.table; bounds = record { lo = x.bounds.lo; hi = x.bounds.hi } }) no_column = cc in all
 
 abbrev pub IsComparison : Comparison → Type 0
 IsComparison x = (x.op ≡ 0) × ((x.left ≡ 0) × ((x.right ≡ 0) × (x.number ≡ pos 0)))
@@ -70,17 +71,22 @@ expression_is x h =
     (record { tables = x.tables; used = x.used; width = x.width; outputs = x.outputs; condition = x.condition }) no_expression = cc in
     all
 
+abbrev IsColumns : Columns → Type 0
+IsColumns x = (x.tables ≡ 0) × ((x.width ≡ 0) × AllOfLen IsColumn x.columns 16)
+
 abbrev pub IsJob : Job → Type 0
-IsJob x =
-    (x.tables ≡ 0) × ((x.width ≡ 0) × (AllOfLen IsColumn x.columns 16 × (IsExpression x.extract × IsExpression x.query)))
+IsJob x = IsColumns x.declared × (IsExpression x.extract × IsExpression x.query)
 
 pub job_is : (x : Job) → IsJob x → x ≡ no_job
 job_is x h =
-    let a = h.0 in
-    let b = h.1.0 in
-    let c = filled no_column column_is x.columns 16 h.1.1.0 in
-    let d = expression_is x.extract h.1.1.1.0 in
-    let e = expression_is x.query h.1.1.1.1 in
-    let all : ◌≡◌ {A = Job}
-    (record { tables = x.tables; width = x.width; columns = x.columns; extract = x.extract; query = x.query }) no_job = cc in
+    let a = h.0.0 in
+    let b = h.0.1.0 in
+    let c = filled no_column column_is x.declared.columns 16 h.0.1.1 in
+    let d = expression_is x.extract h.1.0 in
+    let e = expression_is x.query h.1.1 in
+    let all : ◌≡◌ {A = Job} (record {
+      declared = record { tables = x.declared.tables; width = x.declared.width; columns = x.declared.columns };
+      extract = x.extract;
+      query = x.query;
+    }) no_job = cc in
     all

@@ -13,7 +13,7 @@ use Rattle.job.specs.declared.Clause.{Clause}
 use Rattle.job.specs.declared.Condition.{Condition}
 use Rattle.job.specs.declared.Expression.{Expression}
 use Rattle.job.specs.declared.Job.{Job}
-use Rattle.job.specs.Same.{same_column, same_comparison, same_clause, same_condition, same_expression, same_job}
+use Rattle.job.specs.Same.{same_column, same_comparison, same_clause, same_condition, same_expression, same_columns, same_job}
 
 pointwise_is : {A : Type 0} (p q : A → A → Bool) → ((x y : A) → p x y ≡ q x y) → (xs ys : List A) → pointwise p xs ys ≡ pairwise q xs ys
 pointwise_is p q h [] [] = refl
@@ -24,7 +24,7 @@ pointwise_is p q h (x ∷ xs) (y ∷ ys) = rw (h x y, pointwise_is p q h xs ys)
 -- ---- What the derived comparisons compute
 
 abbrev pub column : Column → Column → Bool
-column a b = eqb a.table b.table && (int_eq a.lo b.lo && int_eq a.hi b.hi)
+column a b = eqb a.table b.table && (int_eq a.bounds.lo b.bounds.lo && int_eq a.bounds.hi b.bounds.hi)
 
 abbrev pub comparison : Comparison → Comparison → Bool
 comparison a b = eqb a.op b.op && (eqb a.left b.left && (eqb a.right b.right && int_eq a.number b.number))
@@ -42,14 +42,15 @@ expression a b =
 
 abbrev pub derived : Job → Job → Bool
 derived a b =
-    eqb a.tables b.tables
-    && (eqb a.width b.width && (pointwise column a.columns b.columns && (expression a.extract b.extract && expression a.query b.query)))
+    (eqb a.declared.tables b.declared.tables
+    && (eqb a.declared.width b.declared.width && pointwise column a.declared.columns b.declared.columns))
+    && (expression a.extract b.extract && expression a.query b.query)
 
 -- ---- And that it is the same
 
 column_is : (a b : Column) → column a b ≡ same_column a b
 unfolding same_column
-column_is a b = rw (int_eq_is a.lo b.lo, int_eq_is a.hi b.hi)
+column_is a b = rw (int_eq_is a.bounds.lo b.bounds.lo, int_eq_is a.bounds.hi b.bounds.hi)
 
 comparison_is : (a b : Comparison) → comparison a b ≡ same_comparison a b
 unfolding same_comparison
@@ -73,10 +74,10 @@ expression_is a b =
     )
 
 pub derived_is : (a b : Job) → derived a b ≡ same_job a b
-unfolding same_job
+unfolding same_columns same_job
 derived_is a b =
     rw (
-      pointwise_is column same_column column_is a.columns b.columns,
+      pointwise_is column same_column column_is a.declared.columns b.declared.columns,
       expression_is a.extract b.extract,
       expression_is a.query b.query,
     )

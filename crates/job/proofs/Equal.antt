@@ -18,7 +18,7 @@ use Rattle.job.specs.declared.Clause.{Clause}
 use Rattle.job.specs.declared.Condition.{Condition}
 use Rattle.job.specs.declared.Expression.{Expression}
 use Rattle.job.specs.declared.Job.{Job}
-use Rattle.job.specs.Same.{same_column, same_comparison, same_clause, same_condition, same_expression, same_job}
+use Rattle.job.specs.Same.{same_column, same_comparison, same_clause, same_condition, same_expression, same_columns, same_job}
 
 -- ---- alike, so equal
 column_is : (a b : Column) → T (same_column a b) → a ≡ b
@@ -26,10 +26,10 @@ unfolding same_column
 column_is a b t₀ =
     let t₁ = and_yes (eqb a.table b.table) _ t₀ in
     let table_is : a.table ≡ b.table = eqb→eq _ _ t₁.0 in
-    let t₂ = and_yes (eq_z a.lo b.lo) _ t₁.1 in
-    let lo_is : a.lo ≡ b.lo = eq_z_is _ _ t₂.0 in
-    let hi_is : a.hi ≡ b.hi = eq_z_is _ _ t₂.1 in
-    let all : ◌≡◌ {A = Column} (record { table = a.table; lo = a.lo; hi = a.hi }) (record { table = b.table; lo = b.lo; hi = b.hi }) = cc in
+    let t₂ = and_yes (eq_z a.bounds.lo b.bounds.lo) _ t₁.1 in
+    let lo_is : a.bounds.lo ≡ b.bounds.lo = eq_z_is _ _ t₂.0 in
+    let hi_is : a.bounds.hi ≡ b.bounds.hi = eq_z_is _ _ t₂.1 in
+    let all : ◌≡◌ {A = Column} (record { table = a.table; bounds = record { lo = a.bounds.lo; hi = a.bounds.hi } }) (record { table = b.table; bounds = record { lo = b.bounds.lo; hi = b.bounds.hi } }) = cc in
     all
 
 comparison_is : (a b : Comparison) → T (same_comparison a b) → a ≡ b
@@ -81,18 +81,18 @@ expression_is a b t₀ =
     all
 
 pub same_is : (a b : Job) → T (same_job a b) → a ≡ b
-unfolding same_job
-same_is a b t₀ =
-    let t₁ = and_yes (eqb a.tables b.tables) _ t₀ in
-    let tables-is : a.tables ≡ b.tables = eqb→eq _ _ t₁.0 in
-    let t₂ = and_yes (eqb a.width b.width) _ t₁.1 in
-    let width_is : a.width ≡ b.width = eqb→eq _ _ t₂.0 in
-    let t₃ = and_yes (pairwise same_column a.columns b.columns) _ t₂.1 in
-    let columns_is : a.columns ≡ b.columns = pairwise_is same_column column_is _ _ t₃.0 in
-    let t₄ = and_yes (same_expression a.extract b.extract) _ t₃.1 in
+unfolding same_columns same_job
+same_is a b t =
+    let t₅ = and_yes (same_columns a.declared b.declared) _ t in
+    let t₁ = and_yes (eqb a.declared.tables b.declared.tables) _ t₅.0 in
+    let tables-is : a.declared.tables ≡ b.declared.tables = eqb→eq _ _ t₁.0 in
+    let t₂ = and_yes (eqb a.declared.width b.declared.width) _ t₁.1 in
+    let width_is : a.declared.width ≡ b.declared.width = eqb→eq _ _ t₂.0 in
+    let columns_is : a.declared.columns ≡ b.declared.columns = pairwise_is same_column column_is _ _ t₂.1 in
+    let t₄ = and_yes (same_expression a.extract b.extract) _ t₅.1 in
     let extract_is : a.extract ≡ b.extract = expression_is _ _ t₄.0 in
     let query_is : a.query ≡ b.query = expression_is _ _ t₄.1 in
-    let all : ◌≡◌ {A = Job} (record { tables = a.tables; width = a.width; columns = a.columns; extract = a.extract; query = a.query }) (record { tables = b.tables; width = b.width; columns = b.columns; extract = b.extract; query = b.query }) = cc in
+    let all : ◌≡◌ {A = Job} (record { declared = record { tables = a.declared.tables; width = a.declared.width; columns = a.declared.columns }; extract = a.extract; query = a.query }) (record { declared = record { tables = b.declared.tables; width = b.declared.width; columns = b.declared.columns }; extract = b.extract; query = b.query }) = cc in
     all
 
 -- ---- alike to itself
@@ -108,7 +108,7 @@ list_same p e (x ∷ l) = rw (e x, list_same p e l)
 
 column_same : (a : Column) → same_column a a ≡ true
 unfolding same_column
-column_same a = rw (number_same a.table, value_same a.lo, value_same a.hi)
+column_same a = rw (number_same a.table, value_same a.bounds.lo, value_same a.bounds.hi)
 
 comparison_same : (a : Comparison) → same_comparison a a ≡ true
 unfolding same_comparison
@@ -134,12 +134,12 @@ expression_same a =
     )
 
 pub same_self : (a : Job) → same_job a a ≡ true
-unfolding same_job
+unfolding same_columns same_job
 same_self a =
     rw (
-      number_same a.tables,
-      number_same a.width,
-      list_same same_column column_same a.columns,
+      number_same a.declared.tables,
+      number_same a.declared.width,
+      list_same same_column column_same a.declared.columns,
       expression_same a.extract,
       expression_same a.query,
     )

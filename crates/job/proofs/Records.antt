@@ -32,7 +32,7 @@ pub record SizedExpression (e : Expression) : Type 0 where
   pub condition : SizedCondition e.condition
 
 pub record Sized (r : Job) : Type 0 where
-  pub columns : length r.columns ≡ 16
+  pub columns : length r.declared.columns ≡ 16
   pub extract : SizedExpression r.extract
   pub query : SizedExpression r.query
 
@@ -56,12 +56,12 @@ sized_expression e vs h = record {
   condition = sized_condition e.condition _ h.1.1.1.1.1.1.0;
 }
 
-pub sized : (r : Job) (vs : List Val) → Is job.the_row r vs → Sized r
-sized r vs h = record {
-  columns = h.1.1.1.1.0.1.0.1;
-  extract = sized_expression r.extract _ h.1.1.1.1.1.0;
-  query = sized_expression r.query _ h.1.1.1.1.1.1.0;
-}
-
 pub sized_columns : (k : Columns) (vs : List Val) → Is columns.the_row k vs → length k.columns ≡ 16
 sized_columns k vs h = h.1.1.1.1.0.1.0.1
+
+pub sized : (r : Job) (vs : List Val) → Is job.the_row r vs → Sized r
+sized r vs h = record {
+  columns = sized_columns r.declared _ h.1.1.0;
+  extract = sized_expression r.extract _ h.1.1.1.0;
+  query = sized_expression r.query _ h.1.1.1.1.0;
+}

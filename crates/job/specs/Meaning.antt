@@ -38,7 +38,7 @@ expression_of e = record {
 }
 
 abbrev pub bounds_of : Column → Bounds
-bounds_of c = record { lo = c.lo; hi = c.hi }
+bounds_of c = c.bounds
 
 -- the columns of a table, in declared order
 abbrev pub table_in : List Column → ℕ → Table
@@ -56,16 +56,12 @@ job_of k extract query = record {
   query = expression_of query;
 }
 
--- what a record declares
-abbrev pub declared_in : Job → Columns
-declared_in r = record { tables = r.tables; width = r.width; columns = r.columns }
-
 -- the record of the three
 abbrev pub problem : Columns → Expression → Expression → Job
-problem k extract query = record { tables = k.tables; width = k.width; columns = k.columns; extract = extract; query = query }
+problem k extract query = record { declared = k; extract = extract; query = query }
 
 abbrev pub meaning_of : Job → model.Job
-meaning_of r = job_of (declared_in r) r.extract r.query
+meaning_of r = job_of r.declared r.extract r.query
 
 -- ---- The record of a job
 
@@ -96,7 +92,7 @@ expression_record e = record {
 }
 
 abbrev pub column_record : ℕ → Bounds → Column
-column_record t b = record { table = t; lo = b.lo; hi = b.hi }
+column_record t b = record { table = t; bounds = b }
 
 -- the columns of some tables, which are numbered from t on
 abbrev pub column_records : ℕ → List Table → List Column
@@ -105,9 +101,11 @@ column_records t (bs ∷ ts) = map (column_record t) bs ++ column_records (suc t
 
 unfoldable pub record_of : model.Job → Job
 record_of j = record {
-  tables = length j.tables;
-  width = length (columns_of j.tables);
-  columns = padded 16 no_column (column_records 0 j.tables);
+  declared = record {
+    tables = length j.tables;
+    width = length (columns_of j.tables);
+    columns = padded 16 no_column (column_records 0 j.tables);
+  };
   extract = expression_record j.extract;
   query = expression_record j.query;
 }

@@ -10,7 +10,7 @@ use Rattle.job.specs.declared.Expression.{Expression}
 use Rattle.job.specs.declared.Job.{Job}
 
 abbrev pub no_column : Column
-no_column = record { table = 0; lo = pos 0; hi = pos 0 }
+no_column = record { table = 0; bounds = record { lo = pos 0; hi = pos 0 } }
 
 abbrev pub no_comparison : Comparison
 no_comparison = record { op = 0; left = 0; right = 0; number = pos 0 }
@@ -25,7 +25,7 @@ abbrev pub no_expression : Expression
 no_expression = record { tables = 0; used = replicate 4 0; width = 0; outputs = replicate 16 0; condition = no_condition }
 
 abbrev pub no_job : Job
-no_job = record { tables = 0; width = 0; columns = replicate 16 no_column; extract = no_expression; query = no_expression }
+no_job = record { declared = record { tables = 0; width = 0; columns = replicate 16 no_column }; extract = no_expression; query = no_expression }
 
 -- ---- Entries past a count are zero
 
@@ -39,6 +39,6 @@ pub record TidyExpression (e : Expression) : Type 0 where
   pub condition : TidyCondition e.condition
 
 pub record Tidy (r : Job) : Type 0 where
-  pub columns : EmptyPast 16 no_column r.width r.columns
+  pub columns : EmptyPast 16 no_column r.declared.width r.declared.columns
   pub extract : TidyExpression r.extract
   pub query : TidyExpression r.query

@@ -7,10 +7,11 @@ use Rattle.job.specs.declared.Comparison.{Comparison}
 use Rattle.job.specs.declared.Clause.{Clause}
 use Rattle.job.specs.declared.Condition.{Condition}
 use Rattle.job.specs.declared.Expression.{Expression}
+use Rattle.job.specs.declared.Columns.{Columns}
 use Rattle.job.specs.declared.Job.{Job}
 
 unfoldable pub same_column : Column → Column → Bool
-same_column a b = eqb a.table b.table && (eq_z a.lo b.lo && eq_z a.hi b.hi)
+same_column a b = eqb a.table b.table && (eq_z a.bounds.lo b.bounds.lo && eq_z a.bounds.hi b.bounds.hi)
 
 unfoldable pub same_comparison : Comparison → Comparison → Bool
 same_comparison a b = eqb a.op b.op && (eqb a.left b.left && (eqb a.right b.right && eq_z a.number b.number))
@@ -27,8 +28,8 @@ same_expression a b =
     && (eqb a.width b.width && (pairwise eqb a.outputs b.outputs
     && same_condition a.condition b.condition)))
 
+unfoldable pub same_columns : Columns → Columns → Bool
+same_columns a b = eqb a.tables b.tables && (eqb a.width b.width && pairwise same_column a.columns b.columns)
+
 unfoldable pub same_job : Job → Job → Bool
-same_job a b =
-    eqb a.tables b.tables
-    && (eqb a.width b.width && (pairwise same_column a.columns b.columns
-    && (same_expression a.extract b.extract && same_expression a.query b.query)))
+same_job a b = same_columns a.declared b.declared && (same_expression a.extract b.extract && same_expression a.query b.query)

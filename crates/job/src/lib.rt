@@ -2,9 +2,8 @@
 // with a count beside, since nothing is allocated; a record that is lent may have any count.
 #![tactic(auto)]
 
-ghost use Rattle.std.specs.Prelude.{◌≡◌};
+ghost use Rattle.std.specs.Prelude.{◌≡◌, take};
 ghost use Rattle.job.specs.Record.{no_job};
-ghost use Rattle.job.specs.Meaning.{bounds_of};
 
 use model::Bounds;
 
@@ -12,19 +11,7 @@ use model::Bounds;
 #[derive(Clone, Copy, PartialEq, Eq, Default)]
 pub struct Column {
     pub table: u8,
-    pub lo: i32,
-    pub hi: i32,
-}
-
-impl Column {
-    pub fn bounds(self) -> Bounds
-        ensures { result ≡ bounds_of self }
-    {
-        Bounds {
-            lo: self.lo,
-            hi: self.hi,
-        }
-    }
+    pub bounds: Bounds,
 }
 
 // A comparison by an op. Right is 0 where the left column is compared with the number, else one more than the column that it is compared
@@ -61,6 +48,15 @@ pub struct Expression {
     pub condition: Condition,
 }
 
+impl Expression {
+    // The tables that it uses. A record that is lent may count more than its array holds.
+    pub fn used_tables(&self) -> &[u8]
+        ensures { result.now ≡ take self.now.tables self.now.used }
+    {
+        &self.used[..self.tables.min(Job::TABLES)]
+    }
+}
+
 // What is declared: the number of tables, and the first `width` of the columns. An extract and a query are decided over it, whatever
 // record they were read into.
 #[derive(Clone, Copy, PartialEq, Eq, Default)]
@@ -70,12 +66,10 @@ pub struct Columns {
     pub columns: [Column; Job::COLUMNS],
 }
 
-// The number of tables, the first `width` of the columns, and the two expressions.
+// What is declared, and the two expressions.
 #[derive(Clone, Copy, PartialEq, Eq, Default)]
 pub struct Job {
-    pub tables: usize,
-    pub width: usize,
-    pub columns: [Column; Job::COLUMNS],
+    pub declared: Columns,
     pub extract: Expression,
     pub query: Expression,
 }

@@ -86,7 +86,7 @@ impl TwinRows {
     {
         let mut t = Self::default();
         for column in &k.columns[..k.width] {
-            t.add(column.bounds());
+            t.add(column.bounds);
         }
         t
     }
@@ -102,7 +102,7 @@ impl TwinRows {
                 t.twin[c] = c as u8;
             } else {
                 t.twin[c] = t.columns as u8;
-                t.add(column.bounds());
+                t.add(column.bounds);
             }
         }
         t

@@ -121,7 +121,7 @@ module _ {k : Columns} {extract query : Expression} {rows : TwinRows} (u : Decid
       ap (λ (z : Zone). row_of (least_of z)) there ∙ sym (ap least_found s.is),
     )
 
-  pairs_by : PairsBy k extract query rows.twin (found_kind j) out
+  pairs_by : PairsBy k rows.twin (found_kind j) out
   pairs_by = record {
     one = λ h l. let (least, same) = of_one h (omega arith) in pairs_one u size same least;
     two = λ l. let (least, same) = of_two (omega arith) (omega arith) in pairs_two u size same least;
@@ -152,7 +152,7 @@ module _ {k : Columns} {extract query : Expression} {rows : TwinRows} (u : Decid
 -- ---- with the kind that the code has
 module _ {k : Columns} {extract query : Expression} {rows : TwinRows} (u : Decides k extract query rows) (size : Sized (problem k extract query))
     {kind : ℕ} {out : Zone} (told : Told u size kind out) where
-  pub pairs_asked : PairsBy k extract query rows.twin kind out
+  pub pairs_asked : PairsBy k rows.twin kind out
   pairs_asked = rw told.0 (pairs_by u size out told.1)
 
   pub pair_handed_out : {p : Pair} → p ≡ pair_record k extract query rows.twin kind (least_in out) → HandsOut k extract query p.first p.second

@@ -42,7 +42,7 @@ use Rattle.twins.specs.Records.{twins_of, twins_record, renamed_clause, renamed_
 use Rattle.twins.specs.Uses.{Paired, Partners, Renames, Marks}
 use Rattle.twins.proofs.Twinned.{record_columns, record_bounds, twin_at, twin_names, twins_stand}
 use Rattle.twins.proofs.Names.{compares, twins_renamed}
-use Rattle.databases.specs.Uses.{UsesFew, TablesFew, HasLeast, PairsOne, PairsTwo, ListsColumns}
+use Rattle.databases.specs.Uses.{TablesFew, HasLeast, PairsOne, PairsTwo, ListsColumns}
 use Rattle.verdict.specs.Found.{without, twin, both_bounds, keeps_one, keeps_other, wants_one, wants_other, box, box2, found1, found2, found3, found4, unfixed_in}
 use Rattle.verdict.specs.Uses.{FindsOne, FindsTwo, Given, Decides, both_rows}
 use Rattle.verdict.proofs.Limits.{taken, both_fit, both_most, keeps_one_lem, keeps_other_lem, wants_one_lem, wants_other_lem, first_most, column_below, twin_below}
@@ -316,31 +316,20 @@ module _ {k : Columns} {extract query : Expression} {rows : TwinRows} (u : Decid
   finds_one z is = rw (is, wants_is, keeps_is)
 
   -- ---- what the databases and the listing ask
-  pub few_used : UsesFew extract query
-  few_used = record {
-    first = used_fit j.extract extract (extract_is r g.laid) size.extract;
-    second = used_fit j.query query (query_is r g.laid) size.query;
-  }
-
   few_tables : TablesFew k
   few_tables = record { width = width_most; tables = λ c. tables_below r g.laid c no_column }
 
   pub lists_columns : ListsColumns k extract
-  lists_columns = record { width = width_most; tables = few_used.first; stored = outputs_fit j.extract extract (extract_is r g.laid) size.extract }
+  lists_columns = record { width = width_most; stored = outputs_fit j.extract extract (extract_is r g.laid) size.extract }
 
-  pub pairs_one : {z : Zone} → columns_of z ≡ k.width → HasLeast z → PairsOne k extract query z
-  pairs_one same least = record {
-    makes = record { few = few_tables; extract_used = few_used.first; query_used = few_used.second };
-    first_in = omega (arith, same);
-    least = least;
-  }
+  pub pairs_one : {z : Zone} → columns_of z ≡ k.width → HasLeast z → PairsOne k z
+  pairs_one same least = record { few = few_tables; first_in = omega (arith, same); least = least }
 
-  pub pairs_two : {z : Zone} → columns_of z ≡ rows.columns → HasLeast z → PairsTwo k query rows.twin z
+  pub pairs_two : {z : Zone} → columns_of z ≡ rows.columns → HasLeast z → PairsTwo k rows.twin z
   pairs_two same least =
       let stands = twins_stand (columns j) j.extract.outputs few_declared in
       record {
         few = few_tables;
-        query_used = few_used.second;
         first_in = omega (arith, same, width_below);
         second_in = record { few = width_most; stand = λ c h. rw both_is (stands.stand c (omega (arith, width_of))) };
         least = least;

@@ -3,7 +3,6 @@ use mathlib.Core.Path.{◌≡◌, refl, ◌∙◌}
 use mathlib.Core.Bool.{Bool, not}
 use mathlib.Core.List.{List, [], ◌∷◌}
 use Prim.Native.Nat.{ℕ}
-use lib.ListN.{take}
 use borrow.Author.Rules.{rules}
 use Rattle.std.specs.List.{list_any}
 use Rattle.std.proofs.lemmas.Iterator.{YieldsList-from_slice}
@@ -23,6 +22,5 @@ pub returns : goal.returns
 unfolding uses_other expression_of
 returns c =
     let missing : ℕ → Bool = λ t. not (uses (expression_of c.args.f.now) t) in
-    let used = take c.args.e.now.tables c.args.e.now.used in
-    any_from_yields_List missing _ _ _ c.any.ensures.ran (YieldsList-from_slice used c.iter.ensures.rest) (λ x b q k. search rules)
-    ∙ any_is missing used
+    rw (← c.used_tables.ensures)
+    (any_from_yields_List missing _ _ _ c.any.ensures.ran (YieldsList-from_slice _ c.iter.ensures.rest) (λ x b q k. search rules) ∙ any_is missing _)

@@ -12,7 +12,7 @@ use Rattle.job.specs.Meaning.{job_of, problem}
 use Rattle.job.proofs.Records.{Sized}
 use Rattle.twins.proofs.Marking.{marked_cong}
 use Rattle.verdict.specs.Found.{unfixed_in}
-use Rattle.verdict.proofs.Ready.{sizes, width_of, width_most, columns_most, keeps_renames, wants_renames, one_asks, one_box, one_finds, two_asks, two_box, two_finds, query_outputs, marks_two, finds_unfixed, few_used, lists_columns, tables_told}
+use Rattle.verdict.proofs.Ready.{sizes, width_of, width_most, columns_most, keeps_renames, wants_renames, one_asks, one_box, one_finds, two_asks, two_box, two_finds, query_outputs, marks_two, finds_unfixed, lists_columns, tables_told}
 use Rattle.verdict.proofs.Told.{Told, none_found, some_found, told_first, told_second}
 use Rattle.verdict.proofs.Handing.{pairs_asked, pair_handed_out, listing_told}
 use Rattle.verdict.proofs.Decided.{kind_found}
@@ -46,9 +46,6 @@ new-out-requires g c = (search rules, omega (arith, c.requires.room))
 
 pub rename-keeps_other-requires : goal.rename-keeps_other-requires
 rename-keeps_other-requires g c = keeps_renames c.requires.decides (sizes _ _ _ _ _ _ c.well_formed.0 c.well_formed.1.0 c.well_formed.1.1.0)
-
-pub tables_differ-differ-requires : goal.tables_differ-differ-requires
-tables_differ-differ-requires g c = few_used c.requires.decides (sizes _ _ _ _ _ _ c.well_formed.0 c.well_formed.1.0 c.well_formed.1.1.0)
 
 pub shared_ref_as_front-set_bounds : goal.shared_ref_as_front-set_bounds
 shared_ref_as_front-set_bounds g c = omega (arith, width_most c.requires.decides (sizes _ _ _ _ _ _ c.well_formed.0 c.well_formed.1.0 c.well_formed.1.1.0))

@@ -15,8 +15,7 @@ add-requires c =
 pub loop-column-preserved : goal.loop-column-preserved
 loop-column-preserved c =
     let k = c.args.k.now in
-    c.add.ensures ∙ rw c.bounds.ensures (first_more _ (omega (arith, c.requires, length-take k.width k.columns)) _ c.loop-column.invariant _
-    c.loop-column-test.true)
+    c.add.ensures ∙ first_more _ (omega (arith, c.requires, length-take k.width k.columns)) _ c.loop-column.invariant _ c.loop-column-test.true
 
 pub returns : goal.returns
 returns c =

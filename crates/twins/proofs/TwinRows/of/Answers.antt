@@ -4,7 +4,7 @@ use lib.Dec.{eqb}
 use borrow.Author.Rules.{rules}
 use Rattle.base.specs.Lists.{any_of}
 use lib.ListN.{length-take}
-use lib.IntN.{pos}
+use Rattle.job.specs.Record.{no_column}
 use Rattle.twins.proofs.Twinned.{both_begin, both_room, both_more, both_end}
 use Rattle.twins.proofs.TwinRows.of.Goals as goal
 use Rattle.twins.proofs.TwinRows.of.Goals.{then-contains, else-contains}
@@ -26,11 +26,11 @@ pub loop-c-preserved : goal.loop-c-preserved
 loop-c-preserved c =
     let k = c.args.k.now in
     let more = both_more _ _ (omega (arith, c.requires, length-take k.width k.columns)) c.loop-c-test.true c.loop-c.invariant
-    (record { table = 0; lo = pos 0; hi = pos 0 }) in
+    no_column in
     let told : c.contains.result ≡ any_of (eqb c.loop-c.c) c.args.stored.now = search rules in
     elim c.if-contains.branch [
       | then-contains w ↦ w.t-is ∙ (rw (← told, w.if-contains.true) at more)
-      | else-contains w ↦ w.t-is ∙ w.add.ensures ∙ (rw (← told, w.if-contains.false, ← w.bounds.ensures) at more)
+      | else-contains w ↦ w.t-is ∙ w.add.ensures ∙ (rw (← told, w.if-contains.false) at more)
     ]
 
 pub returns : goal.returns
