@@ -1,5 +1,6 @@
 -- What a record that is being read into holds: its parts are those of the job that it stands for. Assumes nothing.
 use mathlib.Core.Path.{◌≡◌, ap, ◌∙◌}
+use mathlib.Core.Bool.{Bool}
 use Prim.Native.Nat.{◌≤◌}
 use native.Mathlib.Omega.{arith}
 use lib.ListN.{length}
@@ -9,41 +10,38 @@ use Rattle.model.specs.Tables.{columns_of}
 use Rattle.job.specs.declared.Condition.{Condition}
 use Rattle.job.specs.declared.Expression.{Expression}
 use Rattle.job.specs.declared.Job.{Job}
-use Rattle.job.specs.Meaning.{condition_record, expression_record, record_of, meaning_of}
-use Rattle.layout.specs.Reading.{current}
+use Rattle.job.specs.Meaning.{condition_record, expression_record, record_of}
+use Rattle.layout.specs.Reading.{State, current}
 use Rattle.layout.proofs.Rooms.{used_fit, outputs_fit}
-use Rattle.commands.specs.declared.Progress.{Progress}
-use Rattle.commands.specs.Uses.{state_of, current_in, last_clause, Held}
+use Rattle.commands.specs.Reached.{Held}
+use Rattle.commands.specs.Uses.{current_in, last_clause}
 use Rattle.commands.proofs.Laid.{current_laid}
 use Rattle.commands.proofs.Looks.{last_size_is}
 
-module _ {p : Progress} (h : Held p) where
-  -- the job that has been read so far, and its current expression
-  abbrev so_far : model.Job
-  so_far = meaning_of p.job
-
+module _ {r : Job} {st : State} (h : Held r st) where
+  -- the current expression, and how the record has it
   abbrev m : model.Expression
-  m = current (state_of p)
+  m = current st
 
   abbrev ex : Expression
-  ex = current_in p.cursor.in_query p.job
+  ex = current_in st.in_query r
 
-  pub tables_held : p.job.tables ≡ length so_far.tables
+  pub tables_held : r.tables ≡ length st.job.tables
   unfolding record_of
-  tables_held = ap (λ (r : Job). r.tables) h.laid
+  tables_held = ap (λ (x : Job). x.tables) h.laid
 
-  pub tables_few : p.job.tables ≤ 4
+  pub tables_few : r.tables ≤ 4
   tables_few = omega (arith, tables_held, h.sound.few_tables)
 
-  pub width_held : p.job.width ≡ length (columns_of so_far.tables)
+  pub width_held : r.width ≡ length (columns_of st.job.tables)
   unfolding record_of
-  width_held = ap (λ (r : Job). r.width) h.laid
+  width_held = ap (λ (x : Job). x.width) h.laid
 
-  pub width_small : p.job.width ≤ 16
+  pub width_small : r.width ≤ 16
   width_small = omega (arith, width_held, h.sound.few_columns)
 
   pub current_held : ex ≡ expression_record m
-  current_held = ap (current_in p.cursor.in_query) h.laid ∙ current_laid p.cursor.in_query so_far
+  current_held = ap (current_in st.in_query) h.laid ∙ current_laid st.in_query st.job
 
   pub used_held : ex.tables ≡ length m.used
   unfolding expression_record
@@ -71,3 +69,11 @@ module _ {p : Progress} (h : Held p) where
 
   pub comparisons_held : (last_clause ex.condition).size ≡ length (last_of m.condition)
   comparisons_held = ap (λ (k : Condition). (last_clause k).size) condition_held ∙ last_size_is m.condition
+
+  -- ---- the record's current expression, by whether the query has begun
+  module _ (q : Bool) (e : st.in_query ≡ q) where
+    pub current_at : current_in q r ≡ expression_record m
+    current_at = rw (← e) current_held
+
+    pub current_within : ((current_in q r).tables ≤ 4) × ((current_in q r).width ≤ 16) × ((current_in q r).condition.size ≤ 4)
+    current_within = rw (← e) (used_small, outputs_small, size_small)

@@ -1,27 +1,26 @@
 -- What the functions on commands answer and what they may rely on: entries added to a record, and the checks of a command's operands.
-use Rattle.std.specs.Prelude.{◌≡◌, Bool, true, false, cond, ◌&&◌, ◌||◌, [], ℕ, ◌+◌, ◌-◌, ◌<◌, ◌≤◌, get_or, set, take, ℤ, T, eqb, ltb, Result, Ok, Err}
+use Rattle.std.specs.Prelude.{◌≡◌, Bool, true, cond, ◌&&◌, List, [], ℕ, ◌+◌, ◌-◌, ◌<◌, ◌≤◌, length, get_or, set, ℤ, T, eqb, Some, Result, Ok, Err}
 use Rattle.std.specs.Int.Signed.{le_z}
-use Rattle.base.specs.Lists.{any_of}
-use Rattle.layout.specs.Sound.{Sound}
 use Rattle.model.specs.WellFormed.{in_range}
+use Rattle.words.specs.Compare.{op_at}
 use Rattle.job.specs.declared.Column.{Column}
 use Rattle.job.specs.declared.Comparison.{Comparison}
 use Rattle.job.specs.declared.Clause.{Clause}
 use Rattle.job.specs.declared.Condition.{Condition}
 use Rattle.job.specs.declared.Expression.{Expression}
 use Rattle.job.specs.declared.Job.{Job}
-use Rattle.job.specs.Record.{no_column, no_job}
-use Rattle.job.specs.Meaning.{meaning_of, record_of}
+use Rattle.job.specs.Meaning.{column_record, comparison_record}
 use Rattle.layout.specs.declared.Command.{Command}
 use Rattle.layout.specs.declared.Fault.{Fault}
-use Rattle.layout.specs.Commands.{Entry}
-use Rattle.layout.specs.Faults.{fault_of}
-use Rattle.layout.specs.Reading.{State, current, follows, has_room, in_ranges, op_known, declared, is_new, added}
+use Rattle.layout.specs.Commands.{command_of, operands, Entry, add_table, add_column, mark, use_table, add_output, add_clause, add_comparison}
+use Rattle.layout.specs.declared.Refusal.{Refusal}
+use Rattle.layout.specs.Faults.{fault_of, refusal_of}
+use Rattle.layout.specs.Reading.{State, Step, next, stop, current, follows, has_room, in_ranges, op_known, declared, is_new, taken}
 use Rattle.commands.specs.declared.Addition.{Addition}
 use Rattle.commands.specs.declared.Addition.TheVariants.{Table as TableAdded, Column as ColumnAdded, Part as PartAdded, Nothing}
 use Rattle.commands.specs.declared.Part.{Part}
 use Rattle.commands.specs.declared.Part.TheVariants.{Used, Output, Clause as ClauseAdded, Compared}
-use Rattle.commands.specs.declared.Progress.{Progress}
+use Rattle.commands.specs.Reached.{Reached}
 
 -- ---- The record's parts
 
@@ -32,18 +31,6 @@ current_in q r = cond q r.query r.extract
 abbrev pub last_clause : Condition → Clause
 last_clause k = get_or k.clauses (k.size - 1) (record { size = 0; comparisons = [] })
 
--- column c is declared, and its table used
-abbrev pub scoped_in : Job → Expression → ℕ → Bool
-scoped_in r e c = ltb c r.width && any_of (eqb (get_or r.columns c no_column).table) (take e.tables e.used)
-
--- table t comes after the used tables
-abbrev pub above_in : Expression → ℕ → Bool
-above_in e t = eqb e.tables 0 || ltb (get_or e.used (e.tables - 1) 0) t
-
--- column c is an output
-abbrev pub output_in : Expression → ℕ → Bool
-output_in e c = any_of (eqb c) (take e.width e.outputs)
-
 -- with an expression in place of the current one
 abbrev pub placed : Bool → Job → Expression → Job
 placed q r e = record {
@@ -53,20 +40,6 @@ placed q r e = record {
   extract = cond q r.extract e;
   query = cond q e r.query;
 }
-
--- ---- What has been read
-
--- nothing but the start
-abbrev pub at_start : Progress
-at_start = record { cursor = record { at = 4; last = 0; in_query = false }; job = no_job }
-
--- the expression that commands are for
-abbrev pub current_of : Progress → Expression
-current_of p = current_in p.cursor.in_query p.job
-
--- what the cursor and the record say has been read
-abbrev pub state_of : Progress → State
-state_of p = record { last = p.cursor.last; in_query = p.cursor.in_query; job = meaning_of p.job }
 
 -- ---- One entry more
 
@@ -121,11 +94,11 @@ part_more e ClauseAdded = conditioned e (clause_more e.condition)
 part_more e (Compared k) = conditioned e (comparison_more e.condition k)
 
 -- the record with what a command adds
-abbrev pub grown : Progress → Addition → Job
-grown p TableAdded = table_more p.job
-grown p (ColumnAdded k) = column_more p.job k
-grown p (PartAdded x) = placed p.cursor.in_query p.job (part_more (current_of p) x)
-grown p Nothing = p.job
+abbrev pub grown : Bool → Job → Addition → Job
+grown q r TableAdded = table_more r
+grown q r (ColumnAdded k) = column_more r k
+grown q r (PartAdded x) = placed q r (part_more (current_in q r) x)
+grown q r Nothing = r
 
 -- there is room for it
 abbrev pub PartFits : Expression → Part → Type 0
@@ -134,11 +107,11 @@ PartFits e (Output c) = e.width < 16
 PartFits e ClauseAdded = e.condition.size < 4
 PartFits e (Compared k) = (0 < e.condition.size) × (e.condition.size ≤ 4) × ((last_clause e.condition).size < 6)
 
-abbrev pub Fits : Progress → Addition → Type 0
-Fits p TableAdded = p.job.tables < 4
-Fits p (ColumnAdded k) = p.job.width < 16
-Fits p (PartAdded x) = PartFits (current_of p) x
-Fits p Nothing = T true
+abbrev pub Fits : Bool → Job → Addition → Type 0
+Fits q r TableAdded = r.tables < 4
+Fits q r (ColumnAdded k) = r.width < 16
+Fits q r (PartAdded x) = PartFits (current_in q r) x
+Fits q r Nothing = T true
 
 -- ---- The checks 7 to 10
 
@@ -146,41 +119,47 @@ abbrev pub bounds_fit : ℤ → ℤ → Bool
 bounds_fit lo hi = in_range lo && in_range hi && le_z lo hi
 
 -- refusal n, unless the check is passed
-abbrev pub judge : ℕ → Bool → Result Job Fault → Result Job Fault
+abbrev pub judge : ℕ → Bool → Result Addition Fault → Result Addition Fault
 judge n passed rest = cond passed rest (Err (fault_of n))
 
--- what is said of an entry in terms of the record: the record with it, or the fault of the first check that it doesn't pass
-abbrev pub entered_of : State → Entry → Result Job Fault
-entered_of st x =
+-- what an entry adds
+abbrev pub addition_of : State → Entry → Addition
+addition_of st add_table = TableAdded
+addition_of st (add_column lo hi) = ColumnAdded (column_record (length st.job.tables - 1) (record { lo = lo; hi = hi }))
+addition_of st (mark b) = Nothing
+addition_of st (use_table t) = PartAdded (Used t)
+addition_of st (add_output c) = PartAdded (Output c)
+addition_of st add_clause = PartAdded ClauseAdded
+addition_of st (add_comparison o l r) = PartAdded (Compared (comparison_record (record { op = op_at o; left = l; right = r })))
+
+-- what is said of an entry: what it adds, or the fault of the first check that it doesn't pass
+abbrev pub judged_of : State → Entry → Result Addition Fault
+judged_of st x =
     judge 7 (in_ranges x)
     (judge 8 (op_known x)
     (judge 9 (declared st.job.tables (current st) x)
     (judge 10 (is_new (current st) x)
-    (Ok (record_of (added st.in_query st.job (current st) x))))))
+    (Ok (addition_of st x)))))
 
--- what was judged, in terms of the record
-abbrev pub entered_by : Progress → Result Addition Fault → Result Job Fault
-entered_by p (Ok x) = Ok (grown p x)
-entered_by p (Err f) = Err f
+-- ---- A command
 
-abbrev pub FitsJudged : Progress → Result Addition Fault → Type 0
-FitsJudged p (Ok x) = Fits p x
-FitsJudged p (Err f) = T true
+-- a command that stands where one is due, in order, with room and with its operands
+pub record Ready (s : List ℕ) (p : Reached) (c : Command) : Type 0 where
+  pub listed : command_of (get_or s p.at 0) ≡ Some c
+  pub in_order : follows p.state c ≡ true
+  pub room : has_room p.state c ≡ true
+  pub whole : p.at + 1 + operands c ≤ length s
 
--- an entry is judged rightly
-pub record Judges (p : Progress) (x : Entry) (j : Result Addition Fault) : Type 0 where
-  pub told : entered_by p j ≡ entered_of (state_of p) x
-  pub fits : FitsJudged p j
+-- what the definition says of it
+abbrev pub taken_at : List ℕ → Reached → Command → Step
+taken_at s p c = taken s p.at p.state (get_or s p.at 0) c
 
--- ---- What reading keeps
+-- whether the job ends with a command, or its fault as a refusal at a position
+abbrev pub refused_at : ℕ → Result Bool Fault → Result Bool Refusal
+refused_at at (Ok q) = Ok q
+refused_at at (Err f) = Err (record { fault = f; at = at })
 
--- the record is a job's, and what has been read is well formed as far as it goes
-pub record Held (p : Progress) : Type 0 where
-  pub laid : p.job ≡ record_of (meaning_of p.job)
-  pub sound : Sound (state_of p)
-
--- a command that is in order and has room
-pub record Ready (p : Progress) (c : Command) : Type 0 where
-  pub held : Held p
-  pub in_order : follows (state_of p) c ≡ true
-  pub room : has_room (state_of p) c ≡ true
+-- what a command comes to: whether the job ends with it, and what has been read then, or a refusal, and what had been read
+abbrev pub stepped_of : Reached → Step → Result Bool Refusal × Reached
+stepped_of p (next at st) = (Ok (eqb st.last 0xFF), record { at = at; state = st })
+stepped_of p (stop n at) = (Err (refusal_of n at), p)

@@ -2,21 +2,25 @@
 // the record.
 #![tactic(auto)]
 
-ghost use Rattle.std.specs.Prelude.{◌≡◌, ◌||◌, ◌+◌, ◌≤◌, ◌<◌, length, eqb, leb};
+ghost use Rattle.std.specs.Prelude.{◌≡◌, true, ◌+◌, ◌≤◌, ◌<◌, length, eqb, leb};
 ghost use Rattle.base.specs.Lists.{any_of};
-ghost use Rattle.model.specs.WellFormed.{in_range};
+ghost use Rattle.model.specs.Tables.{columns_of};
+ghost use Rattle.model.specs.WellFormed.{in_scope, in_range};
+ghost use Rattle.job.specs.Meaning.{expression_record, record_of};
 ghost use Rattle.layout.specs.declared.Command.TheVariants.{NextColumn, TableUsed, OutputColumn, NumberCompared, ColumnCompared};
 ghost use Rattle.layout.specs.Commands.{command_of, operands, in_condition, ending, before, entry_at};
-ghost use Rattle.layout.specs.Reading.{starts, has_room};
-ghost use Rattle.commands.specs.Uses.{at_start, current_of, state_of, scoped_in, above_in, output_in, bounds_fit, part_more, grown};
-ghost use Rattle.commands.specs.Uses.{PartFits, Fits, Judges, Held, Ready};
+ghost use Rattle.layout.specs.Reading.{starts, current, follows, has_room, above_last};
+ghost use Rattle.commands.specs.Reached.{started};
+ghost use Rattle.commands.specs.Uses.{bounds_fit, part_more, grown, judged_of, taken_at, refused_at, stepped_of, PartFits, Fits, Ready};
 
 use job::{Column, Comparison, Expression, Job};
 use layout::{Command, Fault};
+use std::marker::Model;
+use words::Op;
 
 // What a command adds to the record. The commands that begin an expression or end the job add nothing.
 #[derive(Clone, Copy)]
-pub enum Addition {
+enum Addition {
     Table,
     Column(Column),
     Part(Part),
@@ -25,7 +29,7 @@ pub enum Addition {
 
 // What a command adds to an expression.
 #[derive(Clone, Copy)]
-pub enum Part {
+enum Part {
     Used(u8),
     Output(u8),
     Clause,
@@ -123,13 +127,6 @@ fn is_ending(last: u8) -> bool
     last == 0x31 || is_in_condition(last)
 }
 
-// Whether the query has begun after a command of byte b.
-pub fn has_begun(in_query: bool, b: u8) -> bool
-    ensures { result ≡ (in_query || eqb b 0x21) }
-{
-    in_query || b == 0x21
-}
-
 // Whether n bytes stand behind the one at a place.
 pub fn has_bytes(s: &[u8], at: usize, n: usize) -> bool
     requires { at < length s.now }
@@ -152,59 +149,106 @@ fn are_bounds(lo: i32, hi: i32) -> bool
     in_range(lo) && in_range(hi) && lo <= hi
 }
 
-// ---- The record so far
-
-// Where the next command is due, the byte of the last command (0 at the start), and whether the query has begun.
-#[derive(Clone, Copy)]
-pub struct Cursor {
-    pub at: usize,
-    pub last: u8,
-    pub in_query: bool,
+// Whether a byte is an op's number.
+fn is_op(o: u8) -> bool
+    ensures { result ≡ leb o 4 }
+{
+    o <= u8::from(Op::More)
 }
 
-// What has been read so far. The record is a job's at every moment: its query is empty until it begins.
-#[derive(Clone, Copy)]
+// ---- What has been read
+
+// What has been read so far: where the next command is due, the byte of the last command (0 at the start), whether the query has begun,
+// and the record. The record is a job's at every moment: its query is empty until it begins.
+#[derive(Drop)]
 pub struct Progress {
-    pub cursor: Cursor,
-    pub job: Job,
+    at: usize,
+    last: u8,
+    in_query: bool,
+    job: Job,
+}
+
+// Clauses see the place and what the definition of reading says has been read.
+impl Model for Progress {
+    ghost use Rattle.commands.specs.Reached.{Reached, state_of, Held};
+
+    ghost Value = { Reached };
+
+    ghost view = { λ p. record { at = p.at; state = state_of p.last p.in_query p.job } };
+
+    ghost invariant = { λ p. Held p.job (state_of p.last p.in_query p.job) };
 }
 
 impl Progress {
     // Nothing but the start.
     pub fn new() -> Self
-        ensures { result ≡ at_start }
+        ensures { result ≡ started }
     {
-        let cursor = Cursor {
+        Self {
             at: 4,
             last: 0,
             in_query: false,
-        };
-        Self {
-            cursor,
             job: Job::empty(),
         }
     }
 
+    // Where the next command is due.
+    pub fn at(&self) -> usize
+        ensures { result ≡ self.now.at }
+    {
+        self.at
+    }
+
+    // The record.
+    pub fn into_job(self) -> Job
+        ensures { result ≡ record_of self.state.job }
+    {
+        self.job
+    }
+
+    // How many tables and columns are declared.
+    fn tables(&self) -> usize
+        ensures declared { result ≡ length self.now.state.job.tables }
+        ensures within { result ≤ 4 }
+        ensures some { follows self.now.state NextColumn ≡ true → 0 < result }
+    {
+        self.job.tables
+    }
+
+    fn width(&self) -> usize
+        ensures declared { result ≡ length (columns_of self.now.state.job.tables) }
+        ensures within { result ≤ 16 }
+    {
+        self.job.width
+    }
+
     // The expression that commands are for.
     fn current(&self) -> &Expression
-        ensures { result.now ≡ current_of self.now }
+        ensures laid { result.now ≡ expression_record (current self.now.state) }
+        ensures within { (result.now.tables ≤ 4) × (result.now.width ≤ 16) × (result.now.condition.size ≤ 4) }
     {
-        if self.cursor.in_query {
+        if self.in_query {
             &self.job.query
         } else {
             &self.job.extract
         }
     }
 
+    // Whether a command is in order.
+    pub fn follows(&self, c: Command) -> bool
+        ensures { result ≡ follows self.now.state c }
+    {
+        follows(c, self.last, self.in_query)
+    }
+
     // Whether a command's entry is within the limits.
-    #[tactic(auto, using(crate::proofs::Keeping::tables_held, crate::proofs::Keeping::width_held, crate::proofs::Keeping::size_held))]
+    #[tactic(auto, using(crate::proofs::Looks::size_held))]
     pub fn has_room(&self, c: Command) -> bool
-        requires { Held self.now }
-        ensures { result ≡ has_room (state_of self.now) c }
+        ensures { result ≡ has_room self.now.state c }
     {
         match c {
-            Command::NextTable => self.job.tables < Job::TABLES,
-            Command::NextColumn => self.job.width < Job::COLUMNS,
+            Command::NextTable => self.tables() < Job::TABLES,
+            Command::NextColumn => self.width() < Job::COLUMNS,
             Command::NextClause => self.current().condition.size < Job::CLAUSES,
             Command::NumberCompared | Command::ColumnCompared => self.has_room_to_compare(),
             Command::ExtractBegins
@@ -216,10 +260,9 @@ impl Progress {
     }
 
     // Whether the last clause has room. Where there is none, the first place has an empty one.
-    #[tactic(auto, using(crate::proofs::Keeping::size_small, crate::proofs::Keeping::comparisons_held))]
+    #[tactic(auto, using(crate::proofs::Looks::last_size_held))]
     fn has_room_to_compare(&self) -> bool
-        requires { Held self.now }
-        ensures { result ≡ has_room (state_of self.now) NumberCompared }
+        ensures { result ≡ has_room self.now.state NumberCompared }
     {
         let condition = &self.current().condition;
         let last = condition.size.saturating_sub(1);
@@ -227,10 +270,9 @@ impl Progress {
     }
 
     // Whether column c is declared and its table used.
-    #[tactic(auto, using(crate::proofs::Keeping::used_small, crate::proofs::Keeping::width_small))]
     fn is_in_scope(&self, c: u8) -> bool
-        requires { Held self.now }
-        ensures { result ≡ scoped_in self.now.job (current_of self.now) c }
+        ensures scoped { result ≡ in_scope self.now.state.job.tables (current self.now.state) c }
+        ensures within { result ≡ true → c < 16 }
     {
         let k = usize::from(c);
         if k >= self.job.width {
@@ -241,20 +283,18 @@ impl Progress {
     }
 
     // Whether table t comes after the used tables.
-    #[tactic(auto, using(crate::proofs::Keeping::used_small))]
+    #[tactic(auto, using(crate::proofs::Looks::above_none, crate::proofs::Looks::above_some))]
     fn is_above(&self, t: u8) -> bool
-        requires { Held self.now }
-        ensures { result ≡ above_in (current_of self.now) t }
+        ensures { result ≡ above_last (current self.now.state).used t }
     {
         let e = self.current();
         e.tables == 0 || e.used[e.tables - 1] < t
     }
 
     // Whether column c is an output already.
-    #[tactic(auto, using(crate::proofs::Keeping::outputs_small))]
+    #[tactic(auto, using(crate::proofs::Looks::outputs_held))]
     fn is_output(&self, c: u8) -> bool
-        requires { Held self.now }
-        ensures { result ≡ output_in (current_of self.now) c }
+        ensures { result ≡ any_of (eqb c) (current self.now.state).outputs }
     {
         let e = self.current();
         e.outputs[..e.width].contains(&c)
@@ -264,28 +304,27 @@ impl Progress {
 
     // 11: lo, hi.
     fn next_column(&self, s: &[u8]) -> Result<Addition, Fault>
-        requires { (Ready self.now NextColumn) × (self.now.cursor.at + 9 ≤ length s.now) }
-        ensures { Judges self.now (entry_at NextColumn s.now self.now.cursor.at) result }
+        requires { (follows self.now.state NextColumn ≡ true) × (self.now.at + 9 ≤ length s.now) }
+        ensures { result ≡ judged_of self.now.state (entry_at NextColumn s.now self.now.at) }
     {
-        let at = self.cursor.at;
+        let at = self.at();
         let lo = words::read(s, at + 1);
         let hi = words::read(s, at + 5);
         if !are_bounds(lo, hi) {
             return Err(Fault::OutOfRange);
         }
         // The table that was declared last.
-        let table = (self.job.tables - 1) as u8;
+        let table = (self.tables() - 1) as u8;
         Ok(Addition::Column(Column { table, lo, hi }))
     }
 
     // 30: a table, declared and above the ones before it.
-    #[tactic(auto, using(crate::proofs::Entries::no_table, crate::proofs::Entries::not_above))]
     fn table_used(&self, s: &[u8]) -> Result<Addition, Fault>
-        requires { (Ready self.now TableUsed) × (self.now.cursor.at + 2 ≤ length s.now) }
-        ensures { Judges self.now (entry_at TableUsed s.now self.now.cursor.at) result }
+        requires { self.now.at + 2 ≤ length s.now }
+        ensures { result ≡ judged_of self.now.state (entry_at TableUsed s.now self.now.at) }
     {
-        let t = s[self.cursor.at + 1];
-        if usize::from(t) >= self.job.tables {
+        let t = s[self.at() + 1];
+        if usize::from(t) >= self.tables() {
             return Err(Fault::Undeclared);
         }
         if !self.is_above(t) {
@@ -295,12 +334,11 @@ impl Progress {
     }
 
     // 31: a column in scope that is no output yet.
-    #[tactic(auto, using(crate::proofs::Entries::out_of_scope, crate::proofs::Entries::repeated))]
     fn output_column(&self, s: &[u8]) -> Result<Addition, Fault>
-        requires { (Ready self.now OutputColumn) × (self.now.cursor.at + 2 ≤ length s.now) }
-        ensures { Judges self.now (entry_at OutputColumn s.now self.now.cursor.at) result }
+        requires { self.now.at + 2 ≤ length s.now }
+        ensures { result ≡ judged_of self.now.state (entry_at OutputColumn s.now self.now.at) }
     {
-        let c = s[self.cursor.at + 1];
+        let c = s[self.at() + 1];
         if !self.is_in_scope(c) {
             return Err(Fault::Undeclared);
         }
@@ -312,16 +350,16 @@ impl Progress {
 
     // 41: op, column, number. The number is judged before the op.
     fn number_compared(&self, s: &[u8]) -> Result<Addition, Fault>
-        requires { (Ready self.now NumberCompared) × (self.now.cursor.at + 7 ≤ length s.now) }
-        ensures { Judges self.now (entry_at NumberCompared s.now self.now.cursor.at) result }
+        requires { self.now.at + 7 ≤ length s.now }
+        ensures { result ≡ judged_of self.now.state (entry_at NumberCompared s.now self.now.at) }
     {
-        let at = self.cursor.at;
+        let at = self.at();
         let number = words::read(s, at + 3);
         if !in_range(number) {
             return Err(Fault::OutOfRange);
         }
         let op = s[at + 1];
-        if op > 4 {
+        if !is_op(op) {
             return Err(Fault::UnknownOp);
         }
         let left = s[at + 2];
@@ -339,12 +377,12 @@ impl Progress {
 
     // 42: op, column, column.
     fn column_compared(&self, s: &[u8]) -> Result<Addition, Fault>
-        requires { (Ready self.now ColumnCompared) × (self.now.cursor.at + 4 ≤ length s.now) }
-        ensures { Judges self.now (entry_at ColumnCompared s.now self.now.cursor.at) result }
+        requires { self.now.at + 4 ≤ length s.now }
+        ensures { result ≡ judged_of self.now.state (entry_at ColumnCompared s.now self.now.at) }
     {
-        let at = self.cursor.at;
+        let at = self.at();
         let op = s[at + 1];
-        if op > 4 {
+        if !is_op(op) {
             return Err(Fault::UnknownOp);
         }
         let left = s[at + 2];
@@ -364,10 +402,10 @@ impl Progress {
         Ok(Addition::Part(Part::Compared(k)))
     }
 
-    // A command that has passed the checks 2 to 6.
-    pub fn enter(&self, s: &[u8], c: Command) -> Result<Addition, Fault>
-        requires { (Ready self.now c) × (self.now.cursor.at + 1 + operands c ≤ length s.now) }
-        ensures { Judges self.now (entry_at c s.now self.now.cursor.at) result }
+    // What a command adds.
+    fn judge(&self, s: &[u8], c: Command) -> Result<Addition, Fault>
+        requires { (follows self.now.state c ≡ true) × (self.now.at + 1 + operands c ≤ length s.now) }
+        ensures { result ≡ judged_of self.now.state (entry_at c s.now self.now.at) }
     {
         match c {
             Command::NextTable => Ok(Addition::Table),
@@ -381,27 +419,40 @@ impl Progress {
         }
     }
 
-    // ---- What a command adds
-
-    // Adds what a command adds, and goes on to the next. The record is written in place.
-    pub fn go_on(&mut self, next: Cursor, x: Addition)
-        requires { Fits self.old x }
-        ensures { self.new ≡ record { cursor = next; job = grown self.old x } }
+    // Takes a command that has passed the checks 2 to 6, and goes on to the next: whether the job ends with it, or its fault. The record is
+    // written in place.
+    pub fn enter(&mut self, s: &[u8], c: Command) -> Result<bool, Fault>
+        requires { Ready s.now self.old c }
+        ensures { (refused_at self.old.at result, self.new) ≡ stepped_of self.old (taken_at s.now self.old c) }
     {
-        match x {
-            Addition::Table => self.job.tables += 1,
-            Addition::Column(k) => {
-                self.job.columns[self.job.width] = k;
-                self.job.width += 1;
-            }
-            Addition::Part(p) => if self.cursor.in_query {
-                put(&mut self.job.query, p);
-            } else {
-                put(&mut self.job.extract, p);
-            },
-            Addition::Nothing => {}
+        let x = self.judge(s, c)?;
+        add(&mut self.job, self.in_query, x);
+        self.last = s[self.at];
+        self.at += 1 + operands(c);
+        self.in_query = self.in_query || matches!(c, Command::QueryBegins);
+        Ok(matches!(c, Command::End))
+    }
+}
+
+// ---- What a command adds
+
+// Adds to the record what a command adds.
+fn add(job: &mut Job, in_query: bool, x: Addition)
+    requires { Fits in_query job.old x }
+    ensures { job.new ≡ grown in_query job.old x }
+{
+    match x {
+        Addition::Table => job.tables += 1,
+        Addition::Column(k) => {
+            job.columns[job.width] = k;
+            job.width += 1;
         }
-        self.cursor = next;
+        Addition::Part(p) => if in_query {
+            put(&mut job.query, p);
+        } else {
+            put(&mut job.extract, p);
+        },
+        Addition::Nothing => {}
     }
 }
 

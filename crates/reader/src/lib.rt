@@ -2,56 +2,54 @@
 #![tactic(auto)]
 
 ghost use Rattle.std.specs.Prelude.{◌≡◌, ◌<◌, length};
+ghost use Rattle.layout.specs.Faults.{refusal_of};
 ghost use Rattle.layout.specs.Reading.{step_of, read_of};
-ghost use Rattle.commands.specs.Uses.{state_of, Held};
+ghost use Rattle.commands.specs.Uses.{refused_at, stepped_of};
 ghost use Rattle.reader.specs.Answers.{decoded_of};
-ghost use Rattle.reader.specs.Uses.{refused_at, Takes};
 
-use commands::{Addition, Cursor, Progress};
+use commands::Progress;
 use job::Job;
 use layout::{Fault, Refusal};
 
-// The command that stands at the cursor, through the checks 3 to 10: where the next one is due, and what it adds.
-fn take(s: &[u8], p: &Progress) -> Result<(Cursor, Addition), Fault>
-    requires { (Held p.now) × (p.now.cursor.at < length s.now) }
-    ensures { Takes p.now (step_of s.now p.now.cursor.at (state_of p.now)) (refused_at p.now.cursor.at result) }
+// The refusal of bytes that end before the job does.
+fn missing(s: &[u8]) -> Refusal
+    ensures { result ≡ refusal_of 2 (length s.now) }
 {
-    let Cursor { at, last, in_query } = p.cursor;
-    let b = s[at];
-    let Some(c) = commands::command(b) else {
+    Refusal {
+        fault: Fault::Missing,
+        at: s.len(),
+    }
+}
+
+// The command that is due, through the checks 3 to 10: whether the job ends with it.
+fn take(s: &[u8], p: &mut Progress) -> Result<bool, Fault>
+    requires { p.old.at < length s.now }
+    ensures { (refused_at p.old.at result, p.new) ≡ stepped_of p.old (step_of s.now p.old.at p.old.state) }
+{
+    let at = p.at();
+    let Some(c) = commands::command(s[at]) else {
         return Err(Fault::Unlisted);
     };
-    if !commands::follows(c, last, in_query) {
+    if !p.follows(c) {
         return Err(Fault::OutOfOrder);
     }
     if !p.has_room(c) {
         return Err(Fault::NoRoom);
     }
-    let n = commands::operands(c);
-    if !commands::has_bytes(s, at, n) {
+    if !commands::has_bytes(s, at, commands::operands(c)) {
         return Err(Fault::NoOperands);
     }
-    let x = p.enter(s, c)?;
-    let next = Cursor {
-        at: at + 1 + n,
-        last: b,
-        in_query: commands::has_begun(in_query, b),
-    };
-    Ok((next, x))
+    p.enter(s, c)
 }
 
-// One command, through the checks 2 to 10.
+// One command, through the checks 2 to 10: whether the job ends with it.
 #[tactic(auto, using(crate::proofs::Steps::step_none))]
-fn step(s: &[u8], p: &Progress) -> Result<(Cursor, Addition), Refusal>
-    requires { Held p.now }
-    ensures { Takes p.now (step_of s.now p.now.cursor.at (state_of p.now)) result }
+fn step(s: &[u8], p: &mut Progress) -> Result<bool, Refusal>
+    ensures { (result, p.new) ≡ stepped_of p.old (step_of s.now p.old.at p.old.state) }
 {
-    let at = p.cursor.at;
+    let at = p.at();
     if at >= s.len() {
-        return Err(Refusal {
-            fault: Fault::Missing,
-            at: s.len(),
-        });
+        return Err(missing(s));
     }
     take(s, p).map_err(|fault| Refusal { fault, at })
 }
@@ -70,23 +68,20 @@ pub fn read(s: &[u8]) -> Result<Job, Refusal>
     }
     let mut p = Progress::new();
     for _ in 0..s.len() {
-        let took = step(s, &p);
-        let Ok((next, x)) = took else {
+        let took = step(s, &mut p);
+        let Ok(ended) = took else {
             return Err(took.unwrap_err());
         };
-        p.go_on(next, x);
-        if next.last == 0xFF {
-            if next.at != s.len() {
+        if ended {
+            let at = p.at();
+            if at != s.len() {
                 return Err(Refusal {
                     fault: Fault::Trailing,
-                    at: next.at,
+                    at,
                 });
             }
-            return Ok(p.job);
+            return Ok(p.into_job());
         }
     }
-    Err(Refusal {
-        fault: Fault::Missing,
-        at: s.len(),
-    })
+    Err(missing(s))
 }

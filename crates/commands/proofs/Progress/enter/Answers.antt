@@ -1,9 +1,52 @@
 -- `Progress::enter` meets its contract. Assumes nothing.
-use Rattle.commands.proofs.Entries.{add_table_lem, add_clause_lem}
+use mathlib.Core.Path.{◌≡◌, sym, ◌∙◌}
+use mathlib.Core.Bool.{◌||◌}
+use lib.ListN.{get_or}
+use lib.Dec.{eqb}
+use Rattle.std.proofs.lemmas.Result.{err_from_is_err_and}
+use Rattle.commands.proofs.Entering.{refused, room, still_held, entered, same_byte, other_byte}
+use Rattle.layout.proofs.Taken.{spelled_query, spelled_end}
 use Rattle.commands.proofs.Progress.enter.Goals as goal
+use Rattle.commands.proofs.Progress.enter.Goals.{Joined-matches-2, then-self, else-self+in-QueryBegins, else-self+in_default, in-End, in_default-matches}
 
-pub returns-in-NextTable : goal.returns-in-NextTable
-returns-in-NextTable c = rw c.in-NextTable.is (let r = rw c.in-NextTable.is at c.requires.0 in add_table_lem r.held r.room)
+pub returns-in_err-x : goal.returns-in_err-x
+returns-in_err-x c =
+    let out = err_from_is_err_and c.from_residual.result c.from_residual.ensures.1 in
+    rw (out.1, out.2) (refused _ _ _ c.requires _ (sym c.in_err-x.was ∙ c.judge.ensures))
 
-pub returns-in-NextClause : goal.returns-in-NextClause
-returns-in-NextClause c = rw c.in-NextClause.is (let r = rw c.in-NextClause.is at c.requires.0 in add_clause_lem r.held r.room)
+pub add-requires : goal.add-requires
+add-requires c =
+    room _ _ _ (rw (← c.self.view_is) at c.requires) _ c.self.invariant _
+    (rw (← c.self.view_is) at (sym c.in_ok-x.was ∙ c.judge.ensures))
+
+-- the query has begun, or begins
+begun : (c : Joined-matches-2) → c.if-self.self ≡ (c.self.inside.in_query || eqb (get_or c.args.s.now c.self.inside.at 0) 0x21)
+begun c =
+    let listed = rw (← c.self.view_is) at c.requires.listed in
+    elim c.if-self.branch [
+      | then-self w ↦ rw (w.self-is, w.if-self.true)
+      | else-self+in-QueryBegins w ↦
+          rw (w.self-is, w.if-self.false) (same_byte _ _ _ _ listed spelled_query.listed w.in-QueryBegins.is)
+      | else-self+in_default w ↦
+          rw (w.self-is, w.if-self.false) (other_byte _ _ _ _ listed spelled_query.listed w.in_default.not-QueryBegins)
+    ]
+
+pub invariant_of-self : goal.invariant_of-self
+invariant_of-self c =
+    still_held _ _ _ (rw (← c.self.view_is) at c.requires) _ c.self.invariant _
+    (rw (← c.self.view_is) at (sym c.in_ok-x.was ∙ c.judge.ensures)) _ c.add.ensures _ (begun c)
+
+-- the job ends, or goes on
+ended : (c : Joined-matches-2) → c.match-matches-2.matches ≡ eqb (get_or c.args.s.now c.self.inside.at 0) 0xFF
+ended c =
+    let listed = rw (← c.self.view_is) at c.requires.listed in
+    elim c.match-matches-2.branch [
+      | in-End w ↦ rw w.matches-is (same_byte _ _ _ _ listed spelled_end.listed w.in-End.is)
+      | in_default-matches w ↦ rw w.matches-is (other_byte _ _ _ _ listed spelled_end.listed w.in_default-matches.not-End)
+    ]
+
+pub returns : goal.returns
+returns c =
+    rw (← c.self.view_is)
+    (entered _ _ _ (rw (← c.self.view_is) at c.requires) _ c.self.invariant _
+    (rw (← c.self.view_is) at (sym c.in_ok-x.was ∙ c.judge.ensures)) _ c.add.ensures _ (begun c) _ _ c.operands.ensures (ended c))

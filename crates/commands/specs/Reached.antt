@@ -1,0 +1,24 @@
+-- What reading has come to: where it stands, what has been read, and the record that holds it.
+use Rattle.std.specs.Prelude.{◌≡◌, Bool, ℕ}
+use Rattle.job.specs.declared.Job.{Job}
+use Rattle.job.specs.Meaning.{meaning_of, record_of}
+use Rattle.layout.specs.Reading.{State, at_start}
+use Rattle.layout.specs.Sound.{Sound}
+
+-- where the next command is due, and what has been read
+pub record Reached : Type 0 where
+  pub at : ℕ
+  pub state : State
+
+-- nothing but the start
+abbrev pub started : Reached
+started = record { at = 4; state = at_start }
+
+-- what has been read, by the byte of the last command, whether the query has begun, and the record
+abbrev pub state_of : ℕ → Bool → Job → State
+state_of b q r = record { last = b; in_query = q; job = meaning_of r }
+
+-- the record is a job's, and what has been read is well formed as far as it goes
+pub record Held (r : Job) (st : State) : Type 0 where
+  pub laid : r ≡ record_of st.job
+  pub sound : Sound st
