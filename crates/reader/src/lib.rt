@@ -68,11 +68,7 @@ pub fn read(s: &[u8]) -> Result<Job, Refusal>
     }
     let mut p = Progress::new();
     for _ in 0..s.len() {
-        let took = step(s, &mut p);
-        let Ok(ended) = took else {
-            return Err(took.unwrap_err());
-        };
-        if ended {
+        if step(s, &mut p)? {
             let at = p.at();
             if at != s.len() {
                 return Err(Refusal {
