@@ -1,7 +1,8 @@
 -- The numbers of document 01's refusals, and refusals as the code has them.
 use Rattle.std.specs.Prelude.{cond, ℕ, eqb}
 use Rattle.layout.specs.declared.Fault.{Fault}
-use Rattle.layout.specs.declared.Fault.TheVariants.{Start, Missing, Unlisted, OutOfOrder, NoRoom, NoOperands, OutOfRange, UnknownOp, Undeclared, NotNew, Trailing, NeverRead, TooFewBytes}
+use Rattle.layout.specs.declared.Fault.TheVariants.{Start, Missing, Unlisted, OutOfOrder, NoRoom, NoOperands, OutOfRange, UnknownOp}
+use Rattle.layout.specs.declared.Fault.TheVariants.{Undeclared, NotNew, Trailing, NeverRead, TooFewBytes}
 use Rattle.layout.specs.declared.Refusal.{Refusal}
 
 abbrev pub number_of_fault : Fault → ℕ
@@ -19,7 +20,8 @@ number_of_fault Trailing = 11
 number_of_fault NeverRead = 12
 number_of_fault TooFewBytes = 17
 
--- the fault of a number; the theorem fault_back says that each fault is its number's
+-- the fault of a number that has one, as each fault has its own (the theorem fault_back). It is asked about no other, such as 13 to 16:
+-- reading refuses under numbers of faults alone (the theorem read_numbered), writing and deciding under 12 and 17.
 abbrev pub fault_of : ℕ → Fault
 fault_of n =
     cond (eqb n 1) Start
