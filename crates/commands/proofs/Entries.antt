@@ -21,7 +21,8 @@ use Rattle.job.specs.declared.Expression.{Expression}
 use Rattle.job.specs.declared.Job.{Job}
 use Rattle.job.specs.Meaning.{column_record, comparison_record, condition_record, expression_record, record_of}
 use Rattle.layout.specs.declared.Command.{Command}
-use Rattle.layout.specs.declared.Command.TheVariants.{NextTable, NextColumn, ExtractBegins, QueryBegins, TableUsed, OutputColumn, NextClause, NumberCompared, ColumnCompared, End}
+use Rattle.layout.specs.declared.Command.TheVariants.{NextTable, NextColumn, ExtractBegins, QueryBegins, TableUsed, OutputColumn, NextClause, NumberCompared}
+use Rattle.layout.specs.declared.Command.TheVariants.{ColumnCompared, End}
 use Rattle.layout.specs.Commands.{Entry, in_condition, add_table, add_column, use_table, add_output, add_clause, add_comparison, entry_at}
 use Rattle.layout.specs.Reading.{State, current, follows, has_room, declared, is_new, above_last, with_condition, with_current, added}
 use Rattle.layout.proofs.Growing.{either}

@@ -1,5 +1,6 @@
 -- What the functions on commands answer and what they may rely on: entries added to a record, and the checks of a command's operands.
-use Rattle.std.specs.Prelude.{◌≡◌, Bool, true, cond, ◌&&◌, List, [], ℕ, ◌+◌, ◌-◌, ◌<◌, ◌≤◌, length, get_or, set, ℤ, T, eqb, Some, Result, Ok, Err}
+use Rattle.std.specs.Prelude.{◌≡◌, Bool, true, cond, ◌&&◌, List, [], ℕ, ◌+◌, ◌-◌, ◌<◌, ◌≤◌, length, get_or, set, ℤ, T, eqb, Some, Result}
+use Rattle.std.specs.Prelude.{Ok, Err}
 use Rattle.std.specs.Int.Signed.{le_z}
 use Rattle.model.specs.WellFormed.{in_range}
 use Rattle.words.specs.Compare.{op_at}
@@ -12,7 +13,8 @@ use Rattle.job.specs.declared.Job.{Job}
 use Rattle.job.specs.Meaning.{column_record, comparison_record}
 use Rattle.layout.specs.declared.Command.{Command}
 use Rattle.layout.specs.declared.Fault.{Fault}
-use Rattle.layout.specs.Commands.{command_of, operands, Entry, add_table, add_column, mark, use_table, add_output, add_clause, add_comparison}
+use Rattle.layout.specs.Commands.{command_of, operands, Entry, add_table, add_column, mark, use_table, add_output, add_clause}
+use Rattle.layout.specs.Commands.{add_comparison}
 use Rattle.layout.specs.declared.Refusal.{Refusal}
 use Rattle.layout.specs.Faults.{fault_of, refusal_of}
 use Rattle.layout.specs.Reading.{State, Step, next, stop, current, follows, has_room, in_ranges, op_known, declared, is_new, taken}

@@ -16,7 +16,8 @@ use Rattle.words.specs.Word.{encoded, value_at}
 use Rattle.words.proofs.Words.{encode_decode}
 use Rattle.model.specs.Tables.{Job}
 use Rattle.layout.specs.declared.Command.{Command}
-use Rattle.layout.specs.declared.Command.TheVariants.{NextTable, NextColumn, ExtractBegins, QueryBegins, TableUsed, OutputColumn, NextClause, NumberCompared, ColumnCompared, End}
+use Rattle.layout.specs.declared.Command.TheVariants.{NextTable, NextColumn, ExtractBegins, QueryBegins, TableUsed, OutputColumn, NextClause, NumberCompared}
+use Rattle.layout.specs.declared.Command.TheVariants.{ColumnCompared, End}
 use Rattle.layout.specs.Commands.{start_bytes, operands, entry_at}
 use Rattle.layout.specs.Reading.{State, at_start, next, step_of, accepted, starts, read_of}
 use Rattle.layout.specs.Writing.{entry_bytes, job_bytes}

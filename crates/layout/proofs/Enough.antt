@@ -18,7 +18,8 @@ use Rattle.model.specs.Tables.{Table, Against, column, number, Clause, Condition
 use Rattle.words.specs.Compare.{number_of_op}
 use Rattle.model.proofs.Formed.{Formed, Limited, is_formed, is_limited}
 use Rattle.layout.specs.declared.Command.{Command}
-use Rattle.layout.specs.declared.Command.TheVariants.{NextTable, NextColumn, ExtractBegins, QueryBegins, TableUsed, OutputColumn, NextClause, NumberCompared, ColumnCompared, End}
+use Rattle.layout.specs.declared.Command.TheVariants.{NextTable, NextColumn, ExtractBegins, QueryBegins, TableUsed, OutputColumn, NextClause, NumberCompared}
+use Rattle.layout.specs.declared.Command.TheVariants.{ColumnCompared, End}
 use Rattle.layout.specs.Commands.{command_of, operands, Entry, add_column, mark, use_table, add_output, add_comparison, entry_at}
 use Rattle.layout.specs.Reading.{State, at_start, Step, next, stop, taken, if_listed, step_of, Reading, ended, onward, read_from, read_of}
 use Rattle.layout.specs.Writing.{comparison_bytes, entry_bytes, table_entries, clause_entries, expression_entries}

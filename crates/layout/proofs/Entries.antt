@@ -18,7 +18,8 @@ use Rattle.model.specs.declared.Bounds.{Bounds}
 use Rattle.words.specs.Compare.{op_at}
 use Rattle.words.proofs.Ops.{op_back}
 use Rattle.layout.specs.declared.Command.{Command}
-use Rattle.layout.specs.declared.Command.TheVariants.{NextTable, NextColumn, ExtractBegins, QueryBegins, TableUsed, OutputColumn, NextClause, NumberCompared, ColumnCompared, End}
+use Rattle.layout.specs.declared.Command.TheVariants.{NextTable, NextColumn, ExtractBegins, QueryBegins, TableUsed, OutputColumn, NextClause, NumberCompared}
+use Rattle.layout.specs.declared.Command.TheVariants.{ColumnCompared, End}
 use Rattle.layout.specs.Commands.{Entry, add_table, add_column, mark, use_table, add_output, add_clause, add_comparison, entry_at}
 use Rattle.layout.specs.Reading.{State, current, follows, with_used, with_output, with_condition, with_current, after}
 use Rattle.layout.specs.Writing.{table_entries, clause_entries, expression_entries, entries_of}

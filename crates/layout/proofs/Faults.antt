@@ -9,7 +9,8 @@ use lib.Dec.{eqb, ltb}
 use Rattle.std.specs.Prelude.{Option, None, Some}
 use Rattle.layout.specs.declared.Command.{Command}
 use Rattle.layout.specs.declared.Fault.{Fault}
-use Rattle.layout.specs.declared.Fault.TheVariants.{Start, Missing, Unlisted, OutOfOrder, NoRoom, NoOperands, OutOfRange, UnknownOp, Undeclared, NotNew, Trailing, NeverRead, TooFewBytes}
+use Rattle.layout.specs.declared.Fault.TheVariants.{Start, Missing, Unlisted, OutOfOrder, NoRoom, NoOperands, OutOfRange, UnknownOp, Undeclared, NotNew}
+use Rattle.layout.specs.declared.Fault.TheVariants.{Trailing, NeverRead, TooFewBytes}
 use Rattle.layout.specs.Faults.{number_of_fault, fault_of}
 use Rattle.layout.specs.Commands.{command_of, entry_at}
 use Rattle.layout.specs.Reading.{State, current, at_start, follows, has_room, has_operands, in_ranges, op_known, declared, is_new}

@@ -9,9 +9,11 @@ use lib.ListN.{length, get_or}
 use lib.Dec.{T, eqb, ltb, ltb→lt, leb→le}
 use borrow.Author.Tests.{eqb-true}
 use Rattle.layout.specs.declared.Command.{Command}
-use Rattle.layout.specs.declared.Command.TheVariants.{NextTable, NextColumn, ExtractBegins, QueryBegins, TableUsed, OutputColumn, NextClause, NumberCompared, ColumnCompared, End}
+use Rattle.layout.specs.declared.Command.TheVariants.{NextTable, NextColumn, ExtractBegins, QueryBegins, TableUsed, OutputColumn, NextClause, NumberCompared}
+use Rattle.layout.specs.declared.Command.TheVariants.{ColumnCompared, End}
 use Rattle.layout.specs.Commands.{command_of, operands, entry_at}
-use Rattle.layout.specs.Reading.{State, current, follows, has_room, has_operands, in_ranges, op_known, declared, is_new, after, Step, next, check, taken, if_listed, step_of}
+use Rattle.layout.specs.Reading.{State, current, follows, has_room, has_operands, in_ranges, op_known, declared, is_new, after, Step, next, check, taken}
+use Rattle.layout.specs.Reading.{if_listed, step_of}
 
 -- ---- a command's byte
 abbrev pub byte_of : Command → ℕ

@@ -20,9 +20,11 @@ use Rattle.model.specs.declared.Bounds.{Bounds}
 use Rattle.words.specs.Compare.{op_at}
 use Rattle.model.specs.WellFormed.{in_scope, against_in_scope, comparison_formed, in_range, against_limited, expression_formed, condition_limited}
 use Rattle.layout.specs.declared.Command.{Command}
-use Rattle.layout.specs.declared.Command.TheVariants.{NextTable, NextColumn, ExtractBegins, QueryBegins, TableUsed, OutputColumn, NextClause, NumberCompared, ColumnCompared, End}
+use Rattle.layout.specs.declared.Command.TheVariants.{NextTable, NextColumn, ExtractBegins, QueryBegins, TableUsed, OutputColumn, NextClause, NumberCompared}
+use Rattle.layout.specs.declared.Command.TheVariants.{ColumnCompared, End}
 use Rattle.layout.specs.Commands.{in_condition, add_table, add_column, mark, use_table, add_output, add_clause, add_comparison, entry_at}
-use Rattle.layout.specs.Reading.{State, no_expression, at_start, current, follows, has_room, above_last, with_used, with_output, with_condition, with_current, after, next, step_of}
+use Rattle.layout.specs.Reading.{State, no_expression, at_start, current, follows, has_room, above_last, with_used, with_output, with_condition, with_current}
+use Rattle.layout.specs.Reading.{after, next, step_of}
 use Rattle.layout.proofs.Growing.{ascending_more, differ_more, either, among, in_condition_lem, at_ending}
 use Rattle.layout.proofs.Given.{byte_of, Given, step_given}
 

@@ -24,7 +24,8 @@ use Rattle.layout.specs.declared.Command.TheVariants.{NextColumn, TableUsed, Out
 use Rattle.layout.specs.Commands.{in_condition, ending, before, Entry, add_table, add_column, use_table, add_output, add_clause, add_comparison}
 use Rattle.layout.specs.Reading.{State, no_expression, at_start, current, has_room, in_ranges, op_known, declared, is_new, with_current, added}
 use Rattle.layout.specs.Writing.{table_entries, clause_entries, expression_entries}
-use Rattle.layout.proofs.Taken.{Spelled, spelled_table, spelled_column, spelled_used, spelled_output, spelled_clause, spelled_against, spelled_columns, Legal, Run, done, run_one, run_append}
+use Rattle.layout.proofs.Taken.{Spelled, spelled_table, spelled_column, spelled_used, spelled_output, spelled_clause, spelled_against, spelled_columns, Legal}
+use Rattle.layout.proofs.Taken.{Run, done, run_one, run_append}
 use Rattle.layout.proofs.Growing.{above_at, new_at, not_empty}
 
 -- ---- a list of things, one after the other

@@ -18,7 +18,8 @@ use Rattle.words.specs.Word.{sign_bit, unsigned_of, encoded, value_at}
 use Rattle.words.proofs.Words.{bytes_are, decode_encode}
 use Rattle.model.specs.Tables.{column, number}
 use Rattle.layout.specs.declared.Command.{Command}
-use Rattle.layout.specs.declared.Command.TheVariants.{NextTable, NextColumn, ExtractBegins, QueryBegins, TableUsed, OutputColumn, NextClause, NumberCompared, ColumnCompared, End}
+use Rattle.layout.specs.declared.Command.TheVariants.{NextTable, NextColumn, ExtractBegins, QueryBegins, TableUsed, OutputColumn, NextClause, NumberCompared}
+use Rattle.layout.specs.declared.Command.TheVariants.{ColumnCompared, End}
 use Rattle.layout.specs.Commands.{command_of, operands, Entry, add_table, add_column, mark, use_table, add_output, add_clause, add_comparison, entry_at}
 use Rattle.layout.specs.Reading.{State, current, follows, has_room, in_ranges, op_known, declared, is_new, after, next, taken, step_of, accepted, read_from}
 use Rattle.layout.specs.Writing.{entry_bytes}

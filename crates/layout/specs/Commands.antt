@@ -3,7 +3,8 @@ use Rattle.std.specs.Prelude.{Bool, cond, List, [], ◌∷◌, ℕ, ◌+◌, get
 use Rattle.words.specs.Word.{value_at}
 use Rattle.model.specs.Tables.{Against, column, number}
 use Rattle.layout.specs.declared.Command.{Command}
-use Rattle.layout.specs.declared.Command.TheVariants.{NextTable, NextColumn, ExtractBegins, QueryBegins, TableUsed, OutputColumn, NextClause, NumberCompared, ColumnCompared, End}
+use Rattle.layout.specs.declared.Command.TheVariants.{NextTable, NextColumn, ExtractBegins, QueryBegins, TableUsed, OutputColumn}
+use Rattle.layout.specs.declared.Command.TheVariants.{NextClause, NumberCompared, ColumnCompared, End}
 
 abbrev pub start_bytes : List ℕ
 start_bytes = 0x50 ∷ 0x53 ∷ 0x4A ∷ 0x31 ∷ []

@@ -1,13 +1,16 @@
 -- Reading a job: each command goes through the checks 2 to 10 before the next one does (document 01, "What is refused").
-use Rattle.std.specs.Prelude.{Bool, true, false, not, cond, ◌&&◌, ◌||◌, List, [], ◌∷◌, ◌++◌, ℕ, zero, suc, ◌+◌, length, get_or, take, eqb, ltb, leb, Option, None, Some}
+use Rattle.std.specs.Prelude.{Bool, true, false, not, cond, ◌&&◌, ◌||◌, List, [], ◌∷◌, ◌++◌, ℕ, zero, suc, ◌+◌, length, get_or, take, eqb}
+use Rattle.std.specs.Prelude.{ltb, leb, Option, None, Some}
 use Rattle.std.specs.Int.Signed.{le_z}
 use Rattle.base.specs.Lists.{any_of, pairwise, in_last, last_of}
 use Rattle.model.specs.Tables.{Table, Condition, Expression, Job, columns_of}
 use Rattle.words.specs.Compare.{op_at}
 use Rattle.model.specs.WellFormed.{in_scope, against_in_scope, in_range, against_limited}
 use Rattle.layout.specs.declared.Command.{Command}
-use Rattle.layout.specs.declared.Command.TheVariants.{NextTable, NextColumn, ExtractBegins, QueryBegins, TableUsed, OutputColumn, NextClause, NumberCompared, ColumnCompared, End}
-use Rattle.layout.specs.Commands.{start_bytes, command_of, operands, before, Entry, add_table, add_column, mark, use_table, add_output, add_clause, add_comparison, entry_at}
+use Rattle.layout.specs.declared.Command.TheVariants.{NextTable, NextColumn, ExtractBegins, QueryBegins, TableUsed, OutputColumn}
+use Rattle.layout.specs.declared.Command.TheVariants.{NextClause, NumberCompared, ColumnCompared, End}
+use Rattle.layout.specs.Commands.{start_bytes, command_of, operands, before, Entry, add_table, add_column, mark, use_table, add_output}
+use Rattle.layout.specs.Commands.{add_clause, add_comparison, entry_at}
 
 -- ---- What has been read so far
 
@@ -124,7 +127,8 @@ added q j e (mark b) = j
 added q j e (use_table t) = with_current q j (with_used e t)
 added q j e (add_output c) = with_current q j (with_output e c)
 added q j e add_clause = with_current q j (with_condition e (e.condition ++ [] ∷ []))
-added q j e (add_comparison o l r) = with_current q j (with_condition e (in_last e.condition (record { op = op_at o; left = l; right = r })))
+added q j e (add_comparison o l r) =
+    with_current q j (with_condition e (in_last e.condition (record { op = op_at o; left = l; right = r })))
 
 -- after a command's byte b and its entry
 abbrev pub after : ℕ → Entry → State → State

@@ -3,7 +3,8 @@ use Rattle.std.specs.Prelude.{◌≡◌, true, false, not, ◌&&◌, List, [], �
 use Rattle.std.specs.Int.Signed.{le_z}
 use Rattle.base.specs.Lists.{any_of, all_of, is_empty}
 use Rattle.model.specs.Tables.{Table, Expression, columns_of}
-use Rattle.model.specs.WellFormed.{ascending, no_repeats, in_scope, comparison_formed, in_range, against_limited, expression_formed, condition_limited}
+use Rattle.model.specs.WellFormed.{ascending, no_repeats, in_scope, comparison_formed, in_range, against_limited, expression_formed}
+use Rattle.model.specs.WellFormed.{condition_limited}
 use Rattle.layout.specs.Commands.{in_condition}
 use Rattle.layout.specs.Reading.{State, no_expression, current}
 
