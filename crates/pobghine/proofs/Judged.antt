@@ -1,8 +1,10 @@
 -- The records that are judged to be reading's: those of well-formed jobs. Assumes nothing.
 use mathlib.Core.Path.{◌≡◌, refl, sym, ap, ◌∙◌}
 use mathlib.Core.Bool.{false}
+use mathlib.Core.List.{List, ◌++◌}
 use Prim.Native.Nat.{ℕ}
 use native.Mathlib.Omega.{arith}
+use lib.ListN.{length, take}
 use lib.Dec.{T}
 use mir.Facts.{and_yes}
 use Rattle.std.specs.Prelude.{Result, Ok, Err}
@@ -20,6 +22,7 @@ use Rattle.layout.specs.Reading.{Reading, accepted, refused, read_of}
 use Rattle.layout.proofs.Theorems as layout
 use Rattle.reader.specs.Answers.{decoded_of}
 use Rattle.pobghine.specs.Records.{is_read, bytes_of}
+use Rattle.pobghine.proofs.Outcomes.{front}
 
 pub meaning_back : (j : model.Job) → T (well_formed j) → meaning_of (record_of j) ≡ j
 meaning_back j w = meaning_record j (well_formed_lem j w).limits.few_tables
@@ -42,9 +45,14 @@ again r t =
     let (w, e) = judged_is r t in
     rw (layout.read_written (meaning_of r) w) (ap Ok e)
 
-module _ (r : Job) (d : Result Job Refusal) (e : d ≡ decoded_of (read_of (bytes_of r))) where
-  pub judged_whole : (b : Job) → d ≡ Ok b → same_job r b ≡ is_read r
-  judged_whole b w = same_test (same_job r b) (is_read r) to from
+-- the record's bytes are the first n of s, and d is read of them
+module _ (r : Job) {s : List ℕ} (rest : List ℕ) {n : ℕ} (count : n ≡ length (bytes_of r)) (bytes : s ≡ bytes_of r ++ rest)
+    {d : Result Job Refusal} (read : d ≡ decoded_of (read_of (take n s))) where
+  e : d ≡ decoded_of (read_of (bytes_of r))
+  e = read ∙ ap (λ l. decoded_of (read_of l)) (front r s n rest count bytes)
+
+  pub judged_whole : {b : Job} → d ≡ Ok b → same_job r b ≡ is_read r
+  judged_whole {b} w = same_test (same_job r b) (is_read r) to from
     where
       to : T (same_job r b) → T (is_read r)
       to t =
@@ -56,8 +64,8 @@ module _ (r : Job) (d : Result Job Refusal) (e : d ≡ decoded_of (read_of (byte
           let both : ◌≡◌ {A = Result Job Refusal} (Ok b) (Ok r) = sym w ∙ e ∙ again r t in
           let f : b ≡ r = cc in rw (f, same_self r) tt
 
-  pub judged_refused : (f : Refusal) → d ≡ Err f → false ≡ is_read r
-  judged_refused f w = same_test false (is_read r) (λ t. absurd t) (λ t. clash t)
+  pub judged_refused : {f : Refusal} → d ≡ Err f → false ≡ is_read r
+  judged_refused {f} w = same_test false (is_read r) (λ t. absurd t) (λ t. clash t)
     where
       clash : T (is_read r) → ⊥
       clash t =

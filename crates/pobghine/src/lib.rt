@@ -1,13 +1,14 @@
 // The entry points of the part. None asks anything of its caller.
 #![tactic(auto)]
 
-ghost use Rattle.std.specs.Prelude.{◌≡◌, map, length, IfOk};
+ghost use Rattle.std.specs.Prelude.{◌≡◌, cond, ◌++◌, ◌≤◌, map, length, drop, Ok, Err, IfOk};
 ghost use Rattle.model.specs.Answers.{number_of_held};
 ghost use Rattle.job.specs.Meaning.{declared_in};
+ghost use Rattle.layout.specs.Faults.{refusal_of};
 ghost use Rattle.layout.specs.Reading.{read_of};
 ghost use Rattle.reader.specs.Answers.{decoded_of};
 ghost use Rattle.verdict.specs.Verdict.{listing_record, HandsOut};
-ghost use Rattle.pobghine.specs.Records.{is_read, written_of, lent_after};
+ghost use Rattle.pobghine.specs.Records.{is_read, bytes_of, written_of, lent_after};
 ghost use Rattle.pobghine.specs.Deciding.{decision_of, kind_in};
 
 use job::{Columns, Job};
@@ -21,16 +22,21 @@ pub fn read(s: &[u8]) -> Result<Job, Refusal>
     reader::read(s)
 }
 
-// Whether reading gives a record, which decides on refusal 12: one that it gives is read again from what is written of it.
-fn is_read(job: Job) -> bool
-    ensures { result ≡ is_read job }
+// Writes a record's bytes, and says how many they are where reading gives that record: where they are read as it again. Else it is refused
+// under 12.
+fn write_if_read(job: Job, bytes: &mut [u8]) -> Result<usize, Refusal>
+    requires { 579 ≤ length bytes.old }
+    ensures answer { result ≡ cond (is_read job) (Ok (length (bytes_of job))) (Err (refusal_of 12 0)) }
+    ensures bytes { bytes.new ≡ bytes_of job ++ drop (length (bytes_of job)) bytes.old }
 {
-    let mut bytes = [0u8; writer::MAX_JOB_BYTES];
-    let n = writer::write(job, &mut bytes);
-    let Ok(again) = reader::read(&bytes[..n]) else {
-        return false;
-    };
-    job == again
+    let n = writer::write(job, bytes);
+    match reader::read(&bytes[..n]) {
+        Ok(again) if job == again => Ok(n),
+        _ => Err(Refusal {
+            fault: Fault::NeverRead,
+            at: 0,
+        }),
+    }
 }
 
 // Writes a job's bytes, whole or not at all, and says how many they are.
@@ -38,14 +44,8 @@ pub fn write(job: Job, out: &mut [u8]) -> Result<usize, Refusal>
     ensures answer { result ≡ written_of job (length out.old) }
     ensures bytes { out.new ≡ lent_after job out.old }
 {
-    if !is_read(job) {
-        return Err(Refusal {
-            fault: Fault::NeverRead,
-            at: 0,
-        });
-    }
     let mut bytes = [0u8; writer::MAX_JOB_BYTES];
-    let n = writer::write(job, &mut bytes);
+    let n = write_if_read(job, &mut bytes)?;
     if out.len() < n {
         return Err(Refusal {
             fault: Fault::TooFewBytes,
@@ -62,12 +62,7 @@ pub fn decide(job: Job) -> Result<Verdict, Refusal>
     ensures listing { IfOk result (λ v. map number_of_held v.listing ≡ listing_record (declared_in job) job.extract job.query) }
     ensures databases { IfOk result (λ v. HandsOut (declared_in job) job.extract job.query v.first v.second) }
 {
-    if !is_read(job) {
-        return Err(Refusal {
-            fault: Fault::NeverRead,
-            at: 0,
-        });
-    }
+    write_if_read(job, &mut [0u8; writer::MAX_JOB_BYTES])?;
     let columns = job.columns;
     let declared = Columns {
         tables: job.tables,
