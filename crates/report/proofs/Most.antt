@@ -1,47 +1,65 @@
--- How long the texts are at most, so that there is room for each. Assumes nothing.
-use mathlib.Core.List.{List, [], ◌∷◌, ◌++◌}
-use Prim.Native.Nat.{ℕ, suc, ◌+◌, ◌*◌, ◌≤◌, ◌<◌}
+-- How long the texts are at most. Assumes nothing.
+use mathlib.Core.Bool.{Bool, true, false}
+use mathlib.Core.List.{◌++◌}
+use Prim.Native.Nat.{ℕ, zero, suc, ◌*◌, ◌≤◌, ◌<◌}
 use native.Mathlib.Omega.{arith}
-use lib.ListN.{length, get_or, length-append}
-use Rattle.base.specs.Lists.{flat_map}
-use Rattle.base.specs.Bytes.{Room}
-use Rattle.base.specs.declared.Output.{Output}
+use lib.ListN.{length, length-append}
+use lib.Dec.{T}
+use Rattle.base.specs.Lists.{flat_map, tabulate}
+use Rattle.model.specs.Tables.{Job}
+use Rattle.model.specs.WellFormed.{well_formed}
+use Rattle.model.specs.Verdict.{columns, first_kind, kind1, kind2, kind3, kind4, kind_of, listing_of}
+use Rattle.model.proofs.Formed.{well_formed_lem}
+use Rattle.model.proofs.Theorems.{listing_neither}
+use Rattle.layout.specs.declared.Fault.{Fault}
+use Rattle.layout.specs.Faults.{number_of_fault}
 use Rattle.report.specs.Text.{ascii, digits, field, refusal_text, verdict_text}
+use Rattle.report.specs.Printed.{job_text}
 use Rattle.report.proofs.Digits.{digits_few}
+use Rattle.report.proofs.Numbers.{fault_byte}
 
 -- a byte has at most three digits
 byte_few : (n : ℕ) → n < 256 → length (digits n) ≤ 3
 byte_few n h = digits_few 2 n (omega arith)
 
-columns_most : (l : List ℕ) → ((i : ℕ) → get_or l i 0 < 256) → length (flat_map l (field " ")) ≤ 4 * length l
-columns_most [] small = omega arith
-columns_most (x ∷ l) small =
-    let one = byte_few x (small 0) in
-    let rest = columns_most l (λ i. small (suc i)) in
-    rw (length-append (field " " x) (flat_map l (field " "))) (omega (arith, one, rest))
+pub refusal_most : (f : Fault) (at : ℕ) → at < 18446744073709551616 → length (refusal_text (number_of_fault f) at) ≤ 81
+unfolding refusal_text
+refusal_most f at word =
+    let number = number_of_fault f in
+    let one = byte_few number (fault_byte f) in
+    let two = digits_few 19 at (omega arith) in
+    rw (length-append (field "refused " number ++ field " at " at) (ascii "\n"), length-append (field "refused " number) (field " at " at))
+    (omega (arith, one, two))
 
-module _ {old : Output} (lent : old.at + 81 ≤ length old.bytes.now) where
-  pub refusal_fits : (number at : ℕ) → number < 256 → at < 18446744073709551616 → Room old (refusal_text number at)
-  unfolding refusal_text
-  refusal_fits number at byte word =
-      let one = byte_few number byte in
-      let two = digits_few 19 at (omega arith) in
-      let few : length (refusal_text number at) ≤ 81 =
-      rw (length-append (field "refused " number ++ field " at " at) (ascii "\n"), length-append (field "refused " number) (field " at " at))
-      (omega (arith, one, two)) in
-      record { room = omega (arith, few, lent) }
+columns_most : (f : ℕ → ℕ) → ((i : ℕ) → f i < 256) → (n : ℕ) → length (flat_map (tabulate n f) (field " ")) ≤ 4 * n
+columns_most f small zero = omega arith
+columns_most f small (suc n) =
+    let one = byte_few (f 0) (small 0) in
+    let rest = columns_most (λ i. f (suc i)) (λ i. small (suc i)) n in
+    rw (length-append (field " " (f 0)) (flat_map (tabulate n (λ i. f (suc i))) (field " "))) (omega (arith, one, rest))
 
-  pub verdict_fits : (kind : ℕ) (columns : List ℕ) → kind < 256 → ((i : ℕ) → get_or columns i 0 < 256) → length columns ≤ 16
-      → Room old (verdict_text kind columns)
-  unfolding verdict_text
-  verdict_fits kind columns byte bytes few =
-      let one = byte_few kind byte in
-      let rest = columns_most columns bytes in
-      let most : length (verdict_text kind columns) ≤ 81 =
-      rw (
-        length-append (field "kind " kind ++ ascii "\ncolumns" ++ flat_map columns (field " ")) (ascii "\n"),
-        length-append (field "kind " kind ++ ascii "\ncolumns") (flat_map columns (field " ")),
-        length-append (field "kind " kind) (ascii "\ncolumns"),
-      )
-      (omega (arith, one, rest)) in
-      record { room = omega (arith, most, lent) }
+first_few : (a b c d : Bool) → first_kind a b c d ≤ 4
+first_few true b c d = omega arith
+first_few false true c d = omega arith
+first_few false false true d = omega arith
+first_few false false false true = omega arith
+first_few false false false false = omega arith
+
+kind_few : (j : Job) → kind_of j < 256
+unfolding kind_of
+kind_few j = let few = first_few (kind1 j) (kind2 j) (kind3 j) (kind4 j) in omega (arith, few)
+
+pub job_most : (j : Job) → T (well_formed j) → length (job_text j) ≤ 81
+unfolding verdict_text
+job_most j w =
+    let kind = kind_of j in
+    let n = length (columns j) in
+    let listing = tabulate n (listing_of j) in
+    let one = byte_few kind (kind_few j) in
+    let rest = columns_most (listing_of j) (λ i. omega (arith, listing_neither j i)) n in
+    rw (
+      length-append (field "kind " kind ++ ascii "\ncolumns" ++ flat_map listing (field " ")) (ascii "\n"),
+      length-append (field "kind " kind ++ ascii "\ncolumns") (flat_map listing (field " ")),
+      length-append (field "kind " kind) (ascii "\ncolumns"),
+    )
+    (omega (arith, one, rest, (well_formed_lem j w).limits.few_columns))

@@ -1,37 +1,15 @@
--- Each number that is printed of a refusal or a verdict, but for a position, has three digits at most. Assumes nothing.
+-- The numbers that are printed of a refusal and a verdict. Assumes nothing.
 use mathlib.Core.List.{List, [], ◌∷◌, map}
 use mathlib.Core.Path.{◌≡◌, refl}
-use Prim.Native.Nat.{ℕ, zero, suc, ◌<◌}
+use Prim.Native.Nat.{◌<◌}
 use native.Mathlib.Omega.{arith}
-use lib.ListN.{get_or}
 use Rattle.base.specs.Lists.{flat_map}
 use Rattle.report.specs.Text.{field}
-use Rattle.model.specs.Answers.{number_of_kind, number_of_held}
-use Rattle.model.specs.declared.Kind.{Kind}
-use Rattle.model.specs.declared.Kind.TheVariants.{Computable, TablesDiffer, RowNotKept, ConditionHidden, OutputHidden}
+use Rattle.model.specs.Answers.{number_of_held}
 use Rattle.model.specs.declared.Held.{Held}
-use Rattle.model.specs.declared.Held.TheVariants.{NotUsed, Stored, Fixed, Open}
 use Rattle.layout.specs.Faults.{number_of_fault}
 use Rattle.layout.specs.declared.Fault.{Fault}
 use Rattle.layout.specs.declared.Fault.TheVariants.{Start, Missing, Unlisted, OutOfOrder, NoRoom, NoOperands, OutOfRange, UnknownOp, Undeclared, NotNew, Trailing, NeverRead, TooFewBytes}
-
-pub kind_byte : (k : Kind) → number_of_kind k < 256
-kind_byte Computable = omega arith
-kind_byte TablesDiffer = omega arith
-kind_byte RowNotKept = omega arith
-kind_byte ConditionHidden = omega arith
-kind_byte OutputHidden = omega arith
-
-held_byte : (h : Held) → number_of_held h < 256
-held_byte NotUsed = omega arith
-held_byte Stored = omega arith
-held_byte Fixed = omega arith
-held_byte Open = omega arith
-
-pub held_bytes : (l : List Held) (i : ℕ) → get_or (map number_of_held l) i 0 < 256
-held_bytes [] i = omega arith
-held_bytes (h ∷ l) zero = held_byte h
-held_bytes (h ∷ l) (suc i) = held_bytes l i
 
 pub fault_byte : (f : Fault) → number_of_fault f < 256
 fault_byte Start = omega arith

@@ -2,7 +2,6 @@
 use mathlib.Core.Path.{◌≡◌, refl, sym, ap, ◌∙◌}
 use mathlib.Core.List.{List, [], ◌∷◌, map}
 use Prim.Native.Nat.{ℕ, zero, suc, ◌≤◌}
-use native.Mathlib.Omega.{arith}
 use lib.ListN.{length, take}
 use lib.Dec.{T}
 use Rattle.std.specs.Prelude.{Result, Ok, Err}
@@ -28,8 +27,9 @@ use Rattle.verdict.specs.declared.Verdict.{Verdict}
 use Rattle.verdict.specs.Verdict.{listing_record}
 use Rattle.pobghine.specs.Records.{is_read}
 use Rattle.pobghine.specs.Deciding.{decision_of, kind_in}
-use Rattle.pobghine.proofs.Judged.{is_judged, meaning_back}
+use Rattle.pobghine.proofs.Judged.{is_judged, meaning_back, whole_is}
 use Rattle.report.specs.Text.{refusal_text, verdict_text}
+use Rattle.report.proofs.Most.{job_most}
 use Rattle.report.specs.Printed.{job_text, reading_text, printed, decision_text, record_text}
 
 map_take : {A B : Type 0} (f : A → B) (n : ℕ) (l : List A) → map f (take n l) ≡ take n (map f l)
@@ -82,14 +82,12 @@ module _ (s : List ℕ) {d : Result Job Refusal} (is : d ≡ decoded_of (read_of
   pub whole_text : {r : Job} → d ≡ Ok r → record_text r ≡ printed s
   whole_text e = ap answer_text (sym e ∙ is) ∙ text_read s
 
--- ---- a record that was read has at most 16 columns
-pub few_read : (s : List ℕ) (r : Job) → Ok r ≡ decoded_of (read_of s) → r.width ≤ 16
-unfolding record_of
-few_read s r = go (read_of s) refl
-  where
-    go : (x : Reading) → read_of s ≡ x → Ok r ≡ decoded_of x → r.width ≤ 16
-    go (accepted j) e f = let g : r ≡ record_of j = cc in rw g ((well_formed_lem j (read_formed s j e)).limits.few_columns)
-    go (refused n at) e f = let z : ◌≡◌ {A = ℕ} 0 1 = cc in absurd (omega arith)
+  -- a record that was read has a text of at most 81 bytes, and at most 16 columns
+  pub few_read : {r : Job} → d ≡ Ok r → (length (record_text r) ≤ 81) × (r.width ≤ 16)
+  few_read {r} e =
+      let (j, a, f) = whole_is (read_of s) r (sym is ∙ e) in
+      let w = read_formed s j a in
+      rw (← f) (rw (record_job j w) (job_most j w), rw (row_width j) (well_formed_lem j w).limits.few_columns)
 
 -- ---- the first 600 bytes tell what is printed
 pub printed_enough : (s : List ℕ) → 600 ≤ length s → printed (take 600 s) ≡ printed s

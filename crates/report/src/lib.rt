@@ -50,7 +50,7 @@ fn put_columns(out: &mut Output, columns: &[Held])
 
 // The text of a refusal.
 fn refusal(out: &mut Output, fault: Fault, at: usize)
-    requires { out.old.at + MOST ≤ length out.old.bytes.now }
+    requires { Room out.old (refusal_text (number_of_fault fault) at) }
     ensures { Puts out.old out.new (refusal_text (number_of_fault fault) at) }
 {
     put_field(out, b"refused ", usize::from(u8::from(fault)));
@@ -60,7 +60,7 @@ fn refusal(out: &mut Output, fault: Fault, at: usize)
 
 // The text of a verdict.
 fn verdict(out: &mut Output, kind: Kind, columns: &[Held])
-    requires { (out.old.at + MOST ≤ length out.old.bytes.now) × (length columns.now ≤ 16) }
+    requires { Room out.old (verdict_text (number_of_kind kind) (map number_of_held columns.now)) }
     ensures { Puts out.old out.new (verdict_text (number_of_kind kind) (map number_of_held columns.now)) }
 {
     put_field(out, b"kind ", usize::from(u8::from(kind)));
@@ -71,7 +71,7 @@ fn verdict(out: &mut Output, kind: Kind, columns: &[Held])
 
 // The text of what is decided of a record.
 fn decided(out: &mut Output, job: Job)
-    requires { (out.old.at + MOST ≤ length out.old.bytes.now) × (job.width ≤ 16) }
+    requires { (Room out.old (record_text job)) × (job.width ≤ 16) }
     ensures { Puts out.old out.new (record_text job) }
 {
     let width = job.width;

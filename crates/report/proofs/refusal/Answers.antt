@@ -1,30 +1,20 @@
--- `report::refusal` meets its contract: two fields and the line's end, for which there is room. Assumes nothing.
+-- `report::refusal` meets its contract: two fields and the line's end. Assumes nothing.
 use Rattle.base.proofs.Bytes.{and_then_lem}
 use Rattle.report.specs.Text.{refusal_text}
-use Rattle.report.proofs.Most.{refusal_fits}
 use Rattle.layout.specs.Faults.{number_of_fault}
-use Rattle.report.proofs.Numbers.{fault_byte}
 use Rattle.report.proofs.Rooms.{room_number, room_position, room_refused}
 use Rattle.report.proofs.refusal.Goals as goal
 
 pub put_field-requires : goal.put_field-requires
-put_field-requires c =
-    let number = number_of_fault c.args.fault in
-    let fits = refusal_fits c.requires number c.args.at (fault_byte c.args.fault) c.ranges.at.fits in
-    rw (c.from-2.ensures, c.from.ensures) (room_number number c.args.at fits)
+put_field-requires c = rw (c.from-2.ensures, c.from.ensures) (room_number (number_of_fault c.args.fault) c.args.at c.requires)
 
 pub put_field-requires-2 : goal.put_field-requires-2
 put_field-requires-2 c =
-    let number = number_of_fault c.args.fault in
-    let fits = refusal_fits c.requires number c.args.at (fault_byte c.args.fault) c.ranges.at.fits in
-    room_position number c.args.at fits
-    (rw (c.from-2.ensures, c.from.ensures) at c.put_field.ensures)
+    room_position (number_of_fault c.args.fault) c.args.at c.requires (rw (c.from-2.ensures, c.from.ensures) at c.put_field.ensures)
 
 pub put-requires : goal.put-requires
 put-requires c =
-    let number = number_of_fault c.args.fault in
-    let fits = refusal_fits c.requires number c.args.at (fault_byte c.args.fault) c.ranges.at.fits in
-    room_refused number c.args.at fits
+    room_refused (number_of_fault c.args.fault) c.args.at c.requires
     (and_then_lem (rw (c.from-2.ensures, c.from.ensures) at c.put_field.ensures) c.put_field-2.ensures)
 
 pub returns : goal.returns

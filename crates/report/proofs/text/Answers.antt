@@ -1,14 +1,23 @@
 -- `report::text` meets its contract: by what is read, and what is decided of it. Assumes nothing.
-use mathlib.Core.Path.{refl, sym, ◌∙◌}
+use mathlib.Core.Path.{refl}
+use native.Mathlib.Omega.{arith}
 use borrow.Author.Rules.{rules}
 use Rattle.base.proofs.Bytes.{puts_is, put_first}
 use Rattle.report.specs.Printed.{printed}
 use Rattle.report.proofs.Printed.{few_read, refused_text, whole_text}
+use Rattle.report.proofs.Most.{refusal_most}
 use Rattle.report.proofs.text.Goals as goal
 use Rattle.report.proofs.text.Goals.{in-Err, in-Ok}
 
 pub decided-requires : goal.decided-requires
-decided-requires c = (c.requires, few_read _ _ (sym c.in-Ok.is ∙ c.read.ensures))
+decided-requires c =
+    let (few, columns) = few_read _ c.read.ensures c.in-Ok.is in
+    (record { room = omega (arith, few, c.requires) }, columns)
+
+pub refusal-requires : goal.refusal-requires
+refusal-requires c =
+    let few = refusal_most c.in-Err.r.fault c.in-Err.r.at (search rules) in
+    record { room = omega (arith, few, c.requires) }
 
 pub returns : goal.returns
 returns c =
