@@ -21,7 +21,7 @@ use Rattle.job.specs.declared.Comparison.{Comparison}
 use Rattle.job.specs.Meaning.{side_of, comparison_of}
 use Rattle.solver.specs.Solver.{fits, bounds_fit, against_fits, comparison_fits}
 use Rattle.solver.specs.Uses.{Solves}
-use Rattle.listform.specs.Form.{bounds_at, comparison_at, bounds_in, comparisons_in, in_order, among, fitting, is_list, least}
+use Rattle.listform.specs.Form.{first_bounds, first_comparison, bounds_in, comparisons_in, in_order, among, fitting, is_list, least}
 
 -- ---- values
 value_fits : (s : List ℕ) (k : ℕ) → T (fits (value_at 4 s k))
@@ -36,11 +36,11 @@ side_fits n zero v h f = f
 side_fits n (suc r) v h f = rw (ne_eqb (suc r) 0 (λ e. omega arith)) (lt→ltb (suc r - 1) n (omega arith))
 
 -- ---- the bounds and the comparisons of a list
-bounds_fit_at : (s : List ℕ) (k : ℕ) → T (le_z (bounds_at s k).lo (bounds_at s k).hi) → T (bounds_fit (bounds_at s k))
-bounds_fit_at s k t =
-    let lo = value_at 4 s k in
-    let hi = value_at 4 s (k + 4) in
-    yes_and (fits lo && fits hi) (le_z lo hi) (yes_and (fits lo) (fits hi) (value_fits s k) (value_fits s (k + 4))) t
+first_fit : (s : List ℕ) → T (le_z (first_bounds s).lo (first_bounds s).hi) → T (bounds_fit (first_bounds s))
+first_fit s t =
+    let lo = value_at 4 s 0 in
+    let hi = value_at 4 s 4 in
+    yes_and (fits lo && fits hi) (le_z lo hi) (yes_and (fits lo) (fits hi) (value_fits s 0) (value_fits s 4)) t
 
 -- lists that are given by what stands at each place, where what passes one test there passes another
 all_too : {A B : Type 0} (p : A → Bool) (q : B → Bool) (f : ℕ → A) (g : ℕ → B) → ((i : ℕ) → T (p (f i)) → T (q (g i))) → (n : ℕ)
@@ -60,21 +60,22 @@ comparison_fits_lem n k f t =
 module _ (n : ℕ) (s : List ℕ) where
   bounds_length : length (bounds_in n s) ≡ n
   unfolding bounds_in
-  bounds_length = tabulate_length n (λ i. bounds_at s (i * 8))
+  bounds_length = tabulate_length n (λ i. first_bounds (drop (i * 8) s))
 
   bounds_fitting : T (in_order (bounds_in n s)) → T (all_of bounds_fit (bounds_in n s))
   unfolding bounds_in
   bounds_fitting =
-      let b = λ (i : ℕ). bounds_at s (i * 8) in
-      all_too (λ b. le_z b.lo b.hi) bounds_fit b b (λ i. bounds_fit_at s (i * 8)) n
+      let b = λ (i : ℕ). first_bounds (drop (i * 8) s) in
+      all_too (λ b. le_z b.lo b.hi) bounds_fit b b (λ i. first_fit (drop (i * 8) s)) n
 
   comparisons_fitting : (m : ℕ) → T (among n (comparisons_in n m s)) → T (all_of (comparison_fits n) (map comparison_of (comparisons_in n m s)))
   unfolding comparisons_in
   comparisons_fitting m t =
-      let k = λ (i : ℕ). comparison_at s (n * 8 + i * 7) in
+      let at = λ (i : ℕ). drop (i * 7) (drop (n * 8) s) in
+      let k = λ (i : ℕ). first_comparison (at i) in
       rw (map_tabulate comparison_of m k)
       (all_too (λ k. ltb k.op 5 && (ltb k.left n && ltb k.right (n + 1))) (comparison_fits n) k (λ i. comparison_of (k i))
-      (λ i. comparison_fits_lem n (k i) (value_fits s (n * 8 + i * 7 + 3))) m t)
+      (λ i. comparison_fits_lem n (k i) (value_fits (at i) 3)) m t)
 
 -- ---- what was read of the bytes
 module _ (n m : ℕ) (s : List ℕ) {bs : List Bounds} {ks : List Comparison} (b : bs ≡ bounds_in n s) (k : ks ≡ comparisons_in n m s) where

@@ -1,6 +1,6 @@
 -- A list of comparisons in bytes: of each of n columns lo and hi, then of each of m comparisons op, left, right and number. Values have four
 -- bytes, the others one. Left is a column; right is 0 where the number is meant, else a column, one more.
-use Rattle.std.specs.Prelude.{Bool, cond, ◌&&◌, List, ◌∷◌, map, ℕ, ◌+◌, ◌*◌, length, replicate, ℤ, pos, ltb, Option as Answer, Some, None}
+use Rattle.std.specs.Prelude.{Bool, cond, ◌&&◌, List, ◌∷◌, map, ℕ, ◌+◌, ◌*◌, length, replicate, drop, ℤ, pos, ltb}
 use Rattle.std.proofs.Math.Option.{Option}
 use Rattle.std.specs.Int.Signed.{le_z}
 use Rattle.std.specs.List.{list_all}
@@ -13,22 +13,24 @@ use Rattle.model.specs.Least.{least_row}
 use Rattle.job.specs.declared.Comparison.{Comparison}
 use Rattle.job.specs.Meaning.{comparison_of}
 use Rattle.solver.specs.Lists.{row_or_zeros}
+use Rattle.listform.specs.declared.Found.{Found}
+use Rattle.listform.specs.declared.Found.TheVariants.{Unmet, Met, NoList}
 
 -- ---- What stands in the bytes
 
--- a column's bounds, and a comparison, from a place on
-abbrev pub bounds_at : List ℕ → ℕ → Bounds
-bounds_at s k = record { lo = value_at 4 s k; hi = value_at 4 s (k + 4) }
+-- a column's bounds, and a comparison, that some bytes begin with
+abbrev pub first_bounds : List ℕ → Bounds
+first_bounds s = record { lo = value_at 4 s 0; hi = value_at 4 s 4 }
 
-abbrev pub comparison_at : List ℕ → ℕ → Comparison
-comparison_at s k = record { op = at s k; left = at s (k + 1); right = at s (k + 2); number = value_at 4 s (k + 3) }
+abbrev pub first_comparison : List ℕ → Comparison
+first_comparison s = record { op = at s 0; left = at s 1; right = at s 2; number = value_at 4 s 3 }
 
 -- those of a list of n columns and m comparisons
 unfoldable pub bounds_in : ℕ → List ℕ → List Bounds
-bounds_in n s = tabulate n (λ i. bounds_at s (i * 8))
+bounds_in n s = tabulate n (λ i. first_bounds (drop (i * 8) s))
 
 unfoldable pub comparisons_in : ℕ → ℕ → List ℕ → List Comparison
-comparisons_in n m s = tabulate m (λ i. comparison_at s (n * 8 + i * 7))
+comparisons_in n m s = tabulate m (λ i. first_comparison (drop (i * 7) (drop (n * 8) s)))
 
 -- ---- Which bytes are a list
 
@@ -52,21 +54,22 @@ is_list n m s = fitting (bounds_in n s) (comparisons_in n m s)
 unfoldable pub least : ℕ → ℕ → List ℕ → Option Row
 least n m s = least_row (bounds_in n s) (map comparison_of (comparisons_in n m s))
 
--- whether there is a row; nothing where the bytes are no list
-unfoldable pub found_in : ℕ → ℕ → List ℕ → Answer Bool
-found_in n m s = cond (is_list n m s) (Some (is_some (least n m s))) None
+-- whether there is a row, or that the bytes are no list
+unfoldable pub found_in : ℕ → ℕ → List ℕ → Found
+found_in n m s = cond (is_list n m s) (cond (is_some (least n m s)) Met Unmet) NoList
 
--- 1 where there is a row, 0 where there is none, 2 where the bytes are no list
-unfoldable pub code_of : ℕ → ℕ → List ℕ → ℕ
-code_of n m s = cond (is_list n m s) (cond (is_some (least n m s)) 1 0) 2
+abbrev pub number_of_found : Found → ℕ
+number_of_found Unmet = 0
+number_of_found Met = 1
+number_of_found NoList = 2
 
 -- the row, or a zero for each column
 unfoldable pub row_for : ℕ → ℕ → List ℕ → List ℤ
 row_for n m s = cond (is_list n m s) (row_or_zeros n (least n m s)) (replicate n (pos 0))
 
--- the bytes that are written, and how many of them are the answer: of what is no list the code alone
+-- the bytes that are written, and how many of them are the answer: of what is no list the first alone
 unfoldable pub written : ℕ → ℕ → List ℕ → List ℕ
-written n m s = code_of n m s ∷ flat_map (row_for n m s) (encoded 4)
+written n m s = number_of_found (found_in n m s) ∷ flat_map (row_for n m s) (encoded 4)
 
 unfoldable pub count_of : ℕ → ℕ → List ℕ → ℕ
 count_of n m s = cond (is_list n m s) (n * 4 + 1) 1

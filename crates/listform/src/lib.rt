@@ -6,8 +6,8 @@ ghost use Rattle.base.specs.Lists.{flat_map};
 ghost use Rattle.words.specs.Word.{encoded};
 ghost use Rattle.solver.specs.Lists.{row_or_zeros};
 ghost use Rattle.listform.specs.Form.{
-  bounds_at,
-  comparison_at,
+  first_bounds,
+  first_comparison,
   bounds_in,
   comparisons_in,
   in_order,
@@ -15,6 +15,7 @@ ghost use Rattle.listform.specs.Form.{
   fitting,
   is_list,
   least,
+  number_of_found,
   found_in,
   written,
   count_of,
@@ -34,27 +35,46 @@ pub const LIST: usize = 2041;
 
 pub const ANSWER: usize = 129;
 
-// The bounds in the bytes from a place on.
-fn bounds_at(s: &[u8], at: usize) -> Bounds
-    requires { at + 8 ≤ length s.now }
-    ensures { result ≡ bounds_at s.now at }
-{
-    Bounds {
-        lo: words::read(s, at),
-        hi: words::read(s, at + 4),
+// What is found of the bytes of a list. Its number is the first byte of an answer.
+#[derive(Clone, Copy)]
+pub enum Found {
+    // No row meets the list.
+    Unmet,
+    // Some row meets it.
+    Met,
+    // The bytes are no list.
+    NoList,
+}
+
+impl From<Found> for u8 {
+    ghost from_gives = { λ found n. n ≡ number_of_found found };
+
+    fn from(found: Found) -> u8 {
+        found as u8
     }
 }
 
-// The comparison in the bytes from a place on.
-fn comparison_at(s: &[u8], at: usize) -> Comparison
-    requires { at + 7 ≤ length s.now }
-    ensures { result ≡ comparison_at s.now at }
+// The bounds in the first bytes.
+fn first_bounds(s: &[u8]) -> Bounds
+    requires { 8 ≤ length s.now }
+    ensures { result ≡ first_bounds s.now }
+{
+    Bounds {
+        lo: words::read(s, 0),
+        hi: words::read(s, 4),
+    }
+}
+
+// The comparison in the first bytes.
+fn first_comparison(s: &[u8]) -> Comparison
+    requires { 7 ≤ length s.now }
+    ensures { result ≡ first_comparison s.now }
 {
     Comparison {
-        op: s[at],
-        left: s[at + 1],
-        right: s[at + 2],
-        number: words::read(s, at + 3),
+        op: s[0],
+        left: s[1],
+        right: s[2],
+        number: words::read(s, 3),
     }
 }
 
@@ -64,12 +84,12 @@ fn decode(s: &[u8], bounds: &mut [Bounds], list: &mut [Comparison])
     ensures bounds { bounds.new ≡ bounds_in (length bounds.old) s.now }
     ensures list { list.new ≡ comparisons_in (length bounds.old) (length list.old) s.now }
 {
-    let from = bounds.len() * 8;
+    let behind = &s[bounds.len() * 8..];
     for (i, b) in bounds.iter_mut().enumerate() {
-        *b = bounds_at(s, i * 8);
+        *b = first_bounds(&s[i * 8..]);
     }
     for (i, k) in list.iter_mut().enumerate() {
-        *k = comparison_at(s, from + i * 7);
+        *k = first_comparison(&behind[i * 7..]);
     }
 }
 
@@ -98,8 +118,8 @@ fn fitting(bounds: &[Bounds], list: &[Comparison]) -> bool
     in_order(bounds) && among(bounds.len(), list)
 }
 
-// Reads a list and solves it: whether some row meets it, or nothing where it is none. The slices are as for `decode`.
-fn solve(s: &[u8], bounds: &mut [Bounds], list: &mut [Comparison], row: &mut [i32]) -> Option<bool>
+// Reads a list and solves it. The slices are as for `decode`; the row stays as it is where the bytes are no list.
+fn solve(s: &[u8], bounds: &mut [Bounds], list: &mut [Comparison], row: &mut [i32]) -> Found
     requires { SolveRooms s.now bounds.old list.old row.old }
     ensures found { result ≡ found_in (length bounds.old) (length list.old) s.now }
     ensures row { row.new ≡ cond (is_list (length bounds.old) (length list.old) s.now)
@@ -107,9 +127,13 @@ fn solve(s: &[u8], bounds: &mut [Bounds], list: &mut [Comparison], row: &mut [i3
 {
     decode(s, bounds, list);
     if !fitting(bounds, list) {
-        return None;
+        return Found::NoList;
     }
-    Some(solver::least_row(bounds, list, row))
+    if solver::least_row(bounds, list, row) {
+        Found::Met
+    } else {
+        Found::Unmet
+    }
 }
 
 // A byte and the values of a row.
@@ -132,10 +156,10 @@ pub fn answer(n: usize, m: usize, s: &[u8], out: &mut [u8]) -> usize
     let mut bounds = [Bounds::default(); COLUMNS];
     let mut list = [Comparison::default(); COMPARISONS];
     let mut row = [0i32; COLUMNS];
-    let Some(found) = solve(s, &mut bounds[..n], &mut list[..m], &mut row[..n]) else {
-        put(2, &row[..n], out);
-        return 1;
-    };
+    let found = solve(s, &mut bounds[..n], &mut list[..m], &mut row[..n]);
     put(u8::from(found), &row[..n], out);
-    out.len()
+    match found {
+        Found::NoList => 1,
+        Found::Unmet | Found::Met => out.len(),
+    }
 }

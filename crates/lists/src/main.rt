@@ -12,12 +12,13 @@
 ghost use Rattle.std.specs.Prelude.{◌<◌};
 ghost use Rattle.listform.specs.Uses.{Room};
 
-use std::io::{Read, Result, Write};
+use listform::Found;
+use std::io::{ErrorKind, Read, Result, Write};
 
-// The functions that answer with a bool say whether a further list may follow.
-fn refuse(output: &mut impl Write) -> bool {
-    let _ = output.write_all(&[2]);
-    false
+// Answers bytes that are no list. An error says that no further list may follow: here that these were none, else that a call failed.
+fn refuse(output: &mut impl Write) -> Result<()> {
+    output.write_all(&[u8::from(Found::NoList)])?;
+    Err(ErrorKind::InvalidData.into())
 }
 
 // Reads a list of n columns and m comparisons into s, which it fills, and answers it.
@@ -28,17 +29,18 @@ fn answer_list<R: Read, W: Write>(
     m: usize,
     s: &mut [u8],
     out: &mut [u8],
-) -> bool
+) -> Result<()>
     requires { Room n m s.old out.old }
 {
     if input.read_exact(s).is_err() {
         return refuse(output);
     }
     let count = listform::answer(n, m, s, out);
-    if output.write_all(&out[..count]).is_err() {
-        return false;
+    output.write_all(&out[..count])?;
+    if out[0] == u8::from(Found::NoList) {
+        return Err(ErrorKind::InvalidData.into());
     }
-    1 < count
+    Ok(())
 }
 
 fn next_byte(input: &mut impl Read) -> Result<u8> {
@@ -47,15 +49,12 @@ fn next_byte(input: &mut impl Read) -> Result<u8> {
     Ok(byte[0])
 }
 
-fn next_list<R: Read, W: Write>(input: &mut R, output: &mut W) -> bool {
+fn next_list<R: Read, W: Write>(input: &mut R, output: &mut W) -> Result<()> {
     // The first byte is read alone: an input that ends before it ends between two lists, and within one after it.
-    let Ok(columns) = next_byte(input) else {
-        return false;
-    };
+    let n = usize::from(next_byte(input)?);
     let Ok(comparisons) = next_byte(input) else {
         return refuse(output);
     };
-    let n = usize::from(columns);
     let m = usize::from(comparisons);
     if n == 0 || listform::COLUMNS < n {
         return refuse(output);
@@ -72,7 +71,7 @@ fn main(rt: HostRuntime) {
     let mut output = rt.stdout();
     // A loop ends by a count; no input has so many lists.
     for _ in 0..u64::MAX {
-        if !next_list(&mut input, &mut output) {
+        if next_list(&mut input, &mut output).is_err() {
             return;
         }
     }

@@ -1,26 +1,22 @@
 -- `listform::answer` meets its contract: what `solve` found, and the row, make up the answer. Assumes nothing.
 use mathlib.Core.Path.{◌∙◌}
 use native.Mathlib.Omega.{arith}
-use Rattle.listform.proofs.Answering.{none_count, none_written, some_count, some_written}
+use Rattle.listform.proofs.Answering.{none_count, list_count, bytes}
 use Rattle.listform.proofs.answer.Goals as goal
 
-pub returns-in_default-clause-count : goal.returns-in_default-clause-count
-returns-in_default-clause-count c =
-    none_count c.args.n c.args.m c.args.s.now c.requires c.default-bounds.result c.default-list.result c.solve.ensures.found c.in_default.is
+pub returns-in-NoList-clause-count : goal.returns-in-NoList-clause-count
+returns-in-NoList-clause-count c = none_count _ _ _ c.requires _ _ c.solve-found.ensures.found c.in-NoList.is
 
-pub returns-in_default-clause-bytes : goal.returns-in_default-clause-bytes
-returns-in_default-clause-bytes c =
+pub returns-in-NoList-clause-bytes : goal.returns-in-NoList-clause-bytes
+returns-in-NoList-clause-bytes c =
     c.put.ensures
-    ∙ none_written c.args.n c.args.m c.args.s.now c.requires c.default-bounds.result c.default-list.result c.solve.ensures.found
-    _ c.solve.auto.row c.solve.ensures.row c.in_default.is
+    ∙ rw c.from.ensures (bytes _ _ _ c.requires _ _ c.solve-found.ensures.found _ c.solve-found.auto.row c.solve-found.ensures.row)
 
-pub returns-clause-count : goal.returns-clause-count
-returns-clause-count c =
-    let e = some_count c.args.n c.args.m c.args.s.now c.requires c.default-bounds.result c.default-list.result c.solve.ensures.found c.in-Some.is in
-    omega (arith, c.put-2.auto, c.requires.room, e)
-
-pub returns-clause-bytes : goal.returns-clause-bytes
-returns-clause-bytes c =
-    rw c.from.ensures at c.put-2.ensures
-    ∙ some_written c.args.n c.args.m c.args.s.now c.requires c.default-bounds.result c.default-list.result c.solve.ensures.found
-    _ c.solve.auto.row c.solve.ensures.row c.in-Some.is
+pub returns-in-Unmet : goal.returns-in-Unmet
+returns-in-Unmet c =
+    let count = list_count _ _ _ c.requires _ _ c.solve-found.ensures.found c.in-Unmet.is in
+    record {
+      count = omega (arith, c.put.auto, c.requires.room, count);
+      bytes = c.put.ensures
+          ∙ rw c.from.ensures (bytes _ _ _ c.requires _ _ c.solve-found.ensures.found _ c.solve-found.auto.row c.solve-found.ensures.row);
+    }

@@ -20,14 +20,36 @@ least_row-requires c =
     let d = c.decode.ensures in
     list_solves _ _ _ d.bounds d.list (sym c.fitting.ensures ∙ c.if-not-fitting.false) c.requires.rooms.small c.requires.room
 
-pub returns-clause-found : goal.returns-clause-found
+pub returns-then-least_row-clause-found : goal.returns-then-least_row-clause-found
 unfolding found_in
-returns-clause-found c =
+returns-then-least_row-clause-found c =
     let d = c.decode.ensures in
-    rw (list_is _ _ _ d.bounds d.list c.fitting.ensures, c.if-not-fitting.false, ← (least_is _ _ _ d.bounds d.list), c.least_row.ensures.answer)
+    rw (
+      list_is _ _ _ d.bounds d.list c.fitting.ensures,
+      c.if-not-fitting.false,
+      ← (least_is _ _ _ d.bounds d.list),
+      sym c.least_row.ensures.answer ∙ c.if-least_row.true,
+    )
 
-pub returns-clause-row : goal.returns-clause-row
-returns-clause-row c =
+pub returns-then-least_row-clause-row : goal.returns-then-least_row-clause-row
+returns-then-least_row-clause-row c =
+    let d = c.decode.ensures in
+    rw (list_is _ _ _ d.bounds d.list c.fitting.ensures, c.if-not-fitting.false, ← (least_is _ _ _ d.bounds d.list))
+    (rw (size_is _ _ _ d.bounds d.list) at c.least_row.ensures.row)
+
+pub returns-else-least_row-clause-found : goal.returns-else-least_row-clause-found
+unfolding found_in
+returns-else-least_row-clause-found c =
+    let d = c.decode.ensures in
+    rw (
+      list_is _ _ _ d.bounds d.list c.fitting.ensures,
+      c.if-not-fitting.false,
+      ← (least_is _ _ _ d.bounds d.list),
+      sym c.least_row.ensures.answer ∙ c.if-least_row.false,
+    )
+
+pub returns-else-least_row-clause-row : goal.returns-else-least_row-clause-row
+returns-else-least_row-clause-row c =
     let d = c.decode.ensures in
     rw (list_is _ _ _ d.bounds d.list c.fitting.ensures, c.if-not-fitting.false, ← (least_is _ _ _ d.bounds d.list))
     (rw (size_is _ _ _ d.bounds d.list) at c.least_row.ensures.row)
