@@ -1,8 +1,9 @@
 -- What is read or written in several calls, and what the front of an input tells. Assumes nothing.
-use Rattle.std.proofs.Common.{◌≡◌, ◌∙◌, ℕ, List, [], ◌++◌, ◌+◌, ◌≤◌, ◌<◌, ◌⊎◌, inl, inr, Option, Some, None, IfSome, Result, Ok, Err, OnOk, true≢false}
-use Rattle.std.proofs.Common.{sym, ap, subst, arith, length, take, drop, take_all, append-nil, length-append}
+use Rattle.std.proofs.Common.{◌≡◌, ◌∙◌, ℕ, List, [], ◌++◌, ◌+◌, ◌-◌, ◌≤◌, ◌<◌, ◌⊎◌, inl, inr, Option, Some, None, IfSome, Result, Ok, Err, OnOk, true≢false}
+use Rattle.std.proofs.Common.{sym, ap, subst, arith, length, take, drop, take_all, append-nil, length-append, length-drop, length-take-le}
 use Rattle.std.proofs.Math.Nat.{eq-or-lt_of_le}
-use Rattle.std.proofs.Math.Seq.{take-add, take-append_seam}
+use Rattle.std.proofs.Math.Seq.{take-add, take-append_seam, take-append-add}
+use Rattle.std.proofs.lemmas.List.{take-append-le}
 use Rattle.std.specs.Result.{is_ok}
 use Rattle.std.specs.Io.KnownBytes.{Appends, Consumes, IsAtEnd}
 use Rattle.std.proofs.KnownBytes.{Appends-trans, Consumes-trans}
@@ -10,16 +11,27 @@ use Rattle.report.specs.Printed.{printed}
 use Rattle.report.proofs.Printed.{printed_enough}
 
 -- one read more: its bytes stand behind those that were there
-pub read_more : (a b c : Option (List ℕ)) (at n : ℕ) (old new : List ℕ) → take at new ≡ take at old
-    → Consumes a b (take at old) → Consumes b c (take n (drop at new)) → Consumes a c (take (at + n) new)
-read_more a b c at n old new kept first second =
-    let joined = ap (λ l. l ++ take n (drop at new)) (sym kept) ∙ sym (take-add at n new) in
-    subst (Consumes a c) joined (Consumes-trans a b c _ _ first second)
+pub read_more : (a b c : Option (List ℕ)) (at n : ℕ) (old new rest : List ℕ) → at ≤ length old → n ≤ length new
+    → Consumes a b (take at old) → Consumes b c (take n new) → Consumes a c (take (at + n) (take at old ++ (new ++ rest)))
+read_more a b c at n old new rest h k first second =
+    let front : length (take at old) ≡ at = length-take-le at old h in
+    let joined : take (at + n) (take at old ++ (new ++ rest)) ≡ take at old ++ take n new =
+    ap (λ m. take (m + n) (take at old ++ (new ++ rest))) (sym front) ∙ take-append-add (take at old) (new ++ rest) n
+    ∙ ap (λ l. take at old ++ l) (take-append-le n new rest k) in
+    subst (Consumes a c) (sym joined) (Consumes-trans a b c _ _ first second)
+
+-- the part of a list from a place on
+rest_of : (at : ℕ) (s : List ℕ) → take (length s - at) (drop at s) ≡ drop at s
+rest_of at s = take_all (length s - at) (drop at s) (omega (arith, length-drop at s))
+
+pub put_within : (at n : ℕ) (s : List ℕ) → at ≤ length s → n ≤ length (take (length s - at) (drop at s)) → at + n ≤ length s
+put_within at n s h k =
+    let few = rw (rest_of at s) at k in omega (arith, few, length-drop at s)
 
 -- one write more
 pub write_more : (a b c : Option (List ℕ)) (at n : ℕ) (s : List ℕ)
-    → Appends a b (take at s) → Appends b c (take n (drop at s)) → Appends a c (take (at + n) s)
-write_more a b c at n s first second = subst (Appends a c) (sym (take-add at n s)) (Appends-trans a b c _ _ first second)
+    → Appends a b (take at s) → Appends b c (take n (take (length s - at) (drop at s))) → Appends a c (take (at + n) s)
+write_more a b c at n s first second = subst (Appends a c) (sym (take-add at n s)) (Appends-trans a b c _ _ first (rw (rest_of at s) at second))
 
 -- an input that begins with 600 bytes is printed as these are
 long_input : (s x y : List ℕ) → length s ≡ 600 → x ≡ s ++ y → printed s ≡ printed x

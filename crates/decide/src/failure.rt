@@ -21,7 +21,8 @@ fn words(text: &str) -> &str {
     }
 }
 
-// One line: the stream, and why it failed, in the C library's words.
+// One line: the stream, and why it failed, in the C library's words. The library prints an error with its number behind, and has no text
+// without it, so that text is taken first.
 fn put_line(rt: &impl Eprint, stream: &str, error: io::Error) {
     let mut text = ArrayString::<ROOM>::new();
     let _ = write!(text, "{error}");

@@ -7,8 +7,8 @@
 mod failure;
 mod wait;
 
-ghost use Rattle.std.specs.Prelude.{◌≤◌, ◌-◌, ◌<◌, ◌≡◌, ℕ, length, take, drop, IfOk, IfErr, OnOk, IfSome};
-ghost use Rattle.std.specs.Io.KnownBytes.{Appends, Consumes, IsAtEnd, ReadConsumes, WriteAppends};
+ghost use Rattle.std.specs.Prelude.{◌<◌, length, take, IfOk, IfErr, OnOk, IfSome};
+ghost use Rattle.std.specs.Io.KnownBytes.{Appends, Consumes, IsAtEnd};
 ghost use Rattle.report.specs.Printed.{printed};
 ghost use Rattle.decide.specs.AtMost.{AtMost};
 ghost use Rattle.decide.specs.Silent.{Silent};
@@ -21,26 +21,9 @@ use std::time::Clock;
 // How many bytes are read. No job has more than 579, and the first 600 tell what is printed for longer input.
 const ENOUGH: usize = 600;
 
-// One call of read, into s from a place on. It gives no byte only at the end of the input.
-fn read_from<R: Read>(input: &mut R, s: &mut [u8], at: usize) -> io::Result<usize>
-    requires { at ≤ length s.old }
-    ensures within { AtMost (length s.old - at) result }
-    ensures kept { take at s.new ≡ take at s.old }
-    ensures bytes { ReadConsumes (R.remaining input.old) (R.remaining input.new) result (drop at s.new) }
-{
-    input.read(&mut s[at..])
-}
-
-// One call of write, of s from a place on.
-fn write_from<W: Write>(output: &mut W, s: &[u8], at: usize) -> io::Result<usize>
-    requires { at ≤ length s.now }
-    ensures within { AtMost (length s.now - at) result }
-    ensures bytes { WriteAppends (W.contents output.old) (W.contents output.new) result (drop at s.now) }
-{
-    output.write(&s[at..])
-}
-
-// Reads until the input ends or s is full. A call takes as many bytes as it likes, so the loop counts these.
+// Reads until the input ends or s is full. A call takes as many bytes as it likes, so the loop counts these. This and `write_output` stay
+// two loops: one function for both would take the call as a closure, over a stream and bytes that are lent to be read or to be written, and
+// its contract would speak of any closure's calls before either could say what its stream then has.
 fn read_input<R: Read>(clock: &impl Clock, input: &mut R, s: &mut [u8]) -> io::Result<usize>
     ensures within { AtMost (length s.new) result }
     ensures bytes { IfOk result (λ n. Consumes (R.remaining input.old) (R.remaining input.new) (take n s.new)) }
@@ -49,7 +32,7 @@ fn read_input<R: Read>(clock: &impl Clock, input: &mut R, s: &mut [u8]) -> io::R
     let mut done = 0;
     let mut left = wait::TIMEOUT;
     while done < s.len() {
-        match read_from(input, s, done) {
+        match input.read(&mut s[done..]) {
             Ok(0) => break,
             Ok(n) => done += n,
             Err(error) => {
@@ -67,7 +50,7 @@ fn write_output<W: Write>(clock: &impl Clock, output: &mut W, s: &[u8]) -> io::R
     let mut done = 0;
     let mut left = wait::TIMEOUT;
     while done < s.len() {
-        match write_from(output, s, done) {
+        match output.write(&s[done..]) {
             Ok(0) => return Err(io::Error::from(ErrorKind::WriteZero)),
             Ok(n) => done += n,
             Err(error) => {
