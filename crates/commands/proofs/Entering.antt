@@ -33,21 +33,17 @@ record Passed (st : State) (y : Entry) (x : Addition) : Type 0 where
   new : is_new (current st) y ≡ true
   same : x ≡ addition_of st y
 
+judged : (n : ℕ) (t : Bool) (rest : Result Addition Fault) {x : Addition} → Ok x ≡ judge n t rest → (t ≡ true) × (Ok x ≡ rest)
+judged n true rest e = (refl, e)
+judged n false rest e = (cc, cc)
+
 passed : (st : State) (y : Entry) (x : Addition) → Ok x ≡ judged_of st y → Passed st y x
 passed st y x e =
-    let (f, g, h, k, z) = go (in_ranges y) (op_known y) (declared st.job.tables (current st) y) (is_new (current st) y) (addition_of st y) e in
-    record { ranged = f; known = g; named = h; new = k; same = z }
-  where
-    clash : {f : Fault} → ◌≡◌ {A = Result Addition Fault} (Ok x) (Err f) → ◌≡◌ {A = ℕ} 0 1
-    clash e = cc
-
-    go : (a b c d : Bool) (z : Addition) → Ok x ≡ judge 7 a (judge 8 b (judge 9 c (judge 10 d (Ok z))))
-        → (a ≡ true) × (b ≡ true) × (c ≡ true) × (d ≡ true) × (x ≡ z)
-    go true true true true z e = (refl, refl, refl, refl, cc)
-    go true true true false z e = let w = clash e in absurd (omega (arith, w))
-    go true true false d z e = let w = clash e in absurd (omega (arith, w))
-    go true false c d z e = let w = clash e in absurd (omega (arith, w))
-    go false b c d z e = let w = clash e in absurd (omega (arith, w))
+    let (f, e₈) = judged 7 (in_ranges y) _ e in
+    let (g, e₉) = judged 8 (op_known y) _ e₈ in
+    let (h, e₁₀) = judged 9 (declared st.job.tables (current st) y) _ e₉ in
+    let (k, z) = judged 10 (is_new (current st) y) _ e₁₀ in
+    record { ranged = f; known = g; named = h; new = k; same = cc }
 
 module _ (s : List ℕ) (p : Reached) (c : Command) (ready : Ready s p c) where
   abbrev at : ℕ

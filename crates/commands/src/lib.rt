@@ -159,7 +159,8 @@ fn is_op(o: u8) -> bool
 // ---- What has been read
 
 // What has been read so far: where the next command is due, the byte of the last command (0 at the start), whether the query has begun,
-// and the record. The record is a job's at every moment: its query is empty until it begins.
+// and the record. The record is a job's at every moment: its query is empty until it begins. The last command is a byte, as in the
+// definition's state and in what `follows` is asked.
 #[derive(Drop)]
 pub struct Progress {
     at: usize,
