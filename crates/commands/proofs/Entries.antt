@@ -58,7 +58,7 @@ module _ {r : Job} {st : State} (h : Held r st) where
   laid = current_held h
 
   -- ---- declarations
-  pub some_tables : follows st NextColumn ≡ true → 0 < r.tables
+  pub some_tables : follows st NextColumn ≡ true → 0 < r.declared.tables
   some_tables o =
       let there : 0 < length ts = ⊎_elim opened filled (either st.last 0x10 0x11 (is_T o)) in
       omega (arith, tables_held h)
@@ -75,7 +75,7 @@ module _ {r : Job} {st : State} (h : Held r st) where
     fits = omega (arith, tables_held h, ltb-true (length ts) 4 f);
   }
 
-  added_column : (b : Bounds) → 0 < r.tables → ltb (length (columns_of ts)) 16 ≡ true → Added r st (add_column b.lo b.hi)
+  added_column : (b : Bounds) → 0 < r.declared.tables → ltb (length (columns_of ts)) 16 ≡ true → Added r st (add_column b.lo b.hi)
   added_column b some room =
       let few : length (columns_of ts) < 16 = ltb-true (length (columns_of ts)) 16 room in
       record {

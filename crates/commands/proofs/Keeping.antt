@@ -26,18 +26,18 @@ module _ {r : Job} {st : State} (h : Held r st) where
   abbrev ex : Expression
   ex = current_in st.in_query r
 
-  pub tables_held : r.tables ≡ length st.job.tables
+  pub tables_held : r.declared.tables ≡ length st.job.tables
   unfolding record_of
-  tables_held = ap (λ (x : Job). x.tables) h.laid
+  tables_held = ap (λ (x : Job). x.declared.tables) h.laid
 
-  pub tables_few : r.tables ≤ 4
+  pub tables_few : r.declared.tables ≤ 4
   tables_few = omega (arith, tables_held, h.sound.few_tables)
 
-  pub width_held : r.width ≡ length (columns_of st.job.tables)
+  pub width_held : r.declared.width ≡ length (columns_of st.job.tables)
   unfolding record_of
-  width_held = ap (λ (x : Job). x.width) h.laid
+  width_held = ap (λ (x : Job). x.declared.width) h.laid
 
-  pub width_small : r.width ≤ 16
+  pub width_small : r.declared.width ≤ 16
   width_small = omega (arith, width_held, h.sound.few_columns)
 
   pub current_held : ex ≡ expression_record m

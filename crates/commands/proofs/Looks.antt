@@ -27,7 +27,7 @@ use Rattle.commands.proofs.Laid.{last_laid}
 
 -- column c is declared, and its table used
 abbrev pub scoped_in : Job → Expression → ℕ → Bool
-scoped_in r e c = ltb c r.width && any_of (eqb (get_or r.columns c no_column).table) (take e.tables e.used)
+scoped_in r e c = ltb c r.declared.width && any_of (eqb (get_or r.declared.columns c no_column).table) (take e.tables e.used)
 
 -- table t comes after the used tables
 abbrev pub above_in : Expression → ℕ → Bool
@@ -100,9 +100,9 @@ module _ (r : Job) (j : model.Job) (is : r ≡ record_of j) (e : model.Expressio
   scoped : scoped_in r (expression_record e) c ≡ in_scope j.tables e c
   scoped = rw is (scoped_is j e c)
 
-  pub not_declared : r.width ≤ c → false ≡ in_scope j.tables e c
-  not_declared k = rw (le-ltb c r.width k) at scoped
+  pub not_declared : r.declared.width ≤ c → false ≡ in_scope j.tables e c
+  not_declared k = rw (le-ltb c r.declared.width k) at scoped
 
-  pub scope_held : c < r.width → (x : Expression) → x ≡ expression_record e
-      → any_of (eqb (get_or r.columns c no_column).table) (take x.tables x.used) ≡ in_scope j.tables e c
-  scope_held k x q = rw q (rw (lt-ltb c r.width k) at scoped)
+  pub scope_held : c < r.declared.width → (x : Expression) → x ≡ expression_record e
+      → any_of (eqb (get_or r.declared.columns c no_column).table) (take x.tables x.used) ≡ in_scope j.tables e c
+  scope_held k x q = rw q (rw (lt-ltb c r.declared.width k) at scoped)

@@ -9,6 +9,7 @@ use Rattle.job.specs.declared.Comparison.{Comparison}
 use Rattle.job.specs.declared.Clause.{Clause}
 use Rattle.job.specs.declared.Condition.{Condition}
 use Rattle.job.specs.declared.Expression.{Expression}
+use Rattle.job.specs.declared.Columns.{Columns}
 use Rattle.job.specs.declared.Job.{Job}
 use Rattle.job.specs.Meaning.{column_record, comparison_record}
 use Rattle.layout.specs.declared.Command.{Command}
@@ -36,26 +37,22 @@ last_clause k = get_or k.clauses (k.size - 1) (record { size = 0; comparisons = 
 -- with an expression in place of the current one
 abbrev pub placed : Bool → Job → Expression → Job
 placed q r e = record {
-  tables = r.tables;
-  width = r.width;
-  columns = r.columns;
+  declared = r.declared;
   extract = cond q r.extract e;
   query = cond q e r.query;
 }
 
 -- ---- One entry more
 
+-- with other columns declared
+abbrev pub declaring : Job → Columns → Job
+declaring r k = record { declared = k; extract = r.extract; query = r.query }
+
 abbrev pub table_more : Job → Job
-table_more r = record { tables = r.tables + 1; width = r.width; columns = r.columns; extract = r.extract; query = r.query }
+table_more r = let k = r.declared in declaring r (record { tables = k.tables + 1; width = k.width; columns = k.columns })
 
 abbrev pub column_more : Job → Column → Job
-column_more r k = record {
-  tables = r.tables;
-  width = r.width + 1;
-  columns = set r.columns r.width k;
-  extract = r.extract;
-  query = r.query;
-}
+column_more r c = let k = r.declared in declaring r (record { tables = k.tables; width = k.width + 1; columns = set k.columns k.width c })
 
 abbrev pub used_more : Expression → ℕ → Expression
 used_more e t = record {
@@ -110,8 +107,8 @@ PartFits e ClauseAdded = e.condition.size < 4
 PartFits e (Compared k) = (0 < e.condition.size) × (e.condition.size ≤ 4) × ((last_clause e.condition).size < 6)
 
 abbrev pub Fits : Bool → Job → Addition → Type 0
-Fits q r TableAdded = r.tables < 4
-Fits q r (ColumnAdded k) = r.width < 16
+Fits q r TableAdded = r.declared.tables < 4
+Fits q r (ColumnAdded k) = r.declared.width < 16
 Fits q r (PartAdded x) = PartFits (current_in q r) x
 Fits q r Nothing = T true
 

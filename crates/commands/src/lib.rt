@@ -15,6 +15,7 @@ ghost use Rattle.commands.specs.Uses.{bounds_fit, part_more, grown, judged_of, t
 
 use job::{Column, Comparison, Expression, Job};
 use layout::{Command, Fault};
+use model::Bounds;
 use std::marker::Model;
 use words::Op;
 
@@ -213,14 +214,14 @@ impl Progress {
         ensures within { result ≤ 4 }
         ensures some { follows self.now.state NextColumn ≡ true → 0 < result }
     {
-        self.job.tables
+        self.job.declared.tables
     }
 
     fn width(&self) -> usize
         ensures declared { result ≡ length (columns_of self.now.state.job.tables) }
         ensures within { result ≤ 16 }
     {
-        self.job.width
+        self.job.declared.width
     }
 
     // The expression that commands are for.
@@ -276,11 +277,11 @@ impl Progress {
         ensures within { result ≡ true → c < 16 }
     {
         let k = usize::from(c);
-        if k >= self.job.width {
+        if k >= self.job.declared.width {
             return false;
         }
         let e = self.current();
-        e.used[..e.tables].contains(&self.job.columns[k].table)
+        e.used[..e.tables].contains(&self.job.declared.columns[k].table)
     }
 
     // Whether table t comes after the used tables.
@@ -316,7 +317,8 @@ impl Progress {
         }
         // The table that was declared last.
         let table = (self.tables() - 1) as u8;
-        Ok(Addition::Column(Column { table, lo, hi }))
+        let bounds = Bounds { lo, hi };
+        Ok(Addition::Column(Column { table, bounds }))
     }
 
     // 30: a table, declared and above the ones before it.
@@ -443,10 +445,11 @@ fn add(job: &mut Job, in_query: bool, x: Addition)
     ensures { job.new ≡ grown in_query job.old x }
 {
     match x {
-        Addition::Table => job.tables += 1,
+        Addition::Table => job.declared.tables += 1,
         Addition::Column(k) => {
-            job.columns[job.width] = k;
-            job.width += 1;
+            let declared = &mut job.declared;
+            declared.columns[declared.width] = k;
+            declared.width += 1;
         }
         Addition::Part(p) => if in_query {
             put(&mut job.query, p);

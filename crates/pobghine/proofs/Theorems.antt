@@ -17,7 +17,7 @@ use Rattle.model.specs.Verdict.{kind_of, Determined, Apart, Evidence}
 use Rattle.model.proofs.Theorems.{computable_is, not_computable_is}
 use Rattle.job.specs.declared.Job.{Job}
 use Rattle.job.specs.Record.{Tidy}
-use Rattle.job.specs.Meaning.{declared_in, meaning_of, record_of}
+use Rattle.job.specs.Meaning.{meaning_of, record_of}
 use Rattle.job.proofs.Tidy.{record_tidy}
 use Rattle.layout.specs.declared.Refusal.{Refusal}
 use Rattle.layout.specs.Reading.{read_of}
@@ -108,10 +108,10 @@ module _ (s : List ℕ) (r : Job) (x : ReadAs s r) where
   )
 
   -- then the two that are handed out, whichever they are, tell it
-  pub decide_evidence : (d f : Database) → HandsOut (declared_in r) r.extract r.query d f → ¬ (decision_of r ≡ Ok 0)
+  pub decide_evidence : (d f : Database) → HandsOut r.declared r.extract r.query d f → ¬ (decision_of r ≡ Ok 0)
       → Evidence (meaning_of r) (database_of (meaning_of r) d) (database_of (meaning_of r) f)
   decide_evidence d f p n = p.handed.with_others (λ e. n ((kind_said s r x 0).1 e))
 
   -- with kind 0 both have no row, and are zero throughout
-  pub decide_empty : (d f : Database) → HandsOut (declared_in r) r.extract r.query d f → decision_of r ≡ Ok 0 → (d ≡ no_database) × (f ≡ no_database)
+  pub decide_empty : (d f : Database) → HandsOut r.declared r.extract r.query d f → decision_of r ≡ Ok 0 → (d ≡ no_database) × (f ≡ no_database)
   decide_empty d f p e = p.with_0 ((kind_said s r x 0).0 e)

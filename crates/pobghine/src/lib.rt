@@ -3,7 +3,6 @@
 
 ghost use Rattle.std.specs.Prelude.{◌≡◌, cond, ◌++◌, ◌≤◌, map, length, drop, Ok, Err, IfOk};
 ghost use Rattle.model.specs.Answers.{number_of_held};
-ghost use Rattle.job.specs.Meaning.{declared_in};
 ghost use Rattle.layout.specs.Faults.{refusal_of};
 ghost use Rattle.layout.specs.Reading.{read_of};
 ghost use Rattle.reader.specs.Answers.{decoded_of};
@@ -11,7 +10,7 @@ ghost use Rattle.verdict.specs.Verdict.{listing_record, HandsOut};
 ghost use Rattle.pobghine.specs.Records.{is_read, bytes_of, written_of, lent_after};
 ghost use Rattle.pobghine.specs.Deciding.{decision_of, kind_in};
 
-use job::{Columns, Job};
+use job::Job;
 use layout::{Fault, Refusal};
 use verdict::Verdict;
 
@@ -59,15 +58,9 @@ pub fn write(job: Job, out: &mut [u8]) -> Result<usize, Refusal>
 // Decides whether the extract determines the query. Only the two databases of kinds 1 to 4 are free.
 pub fn decide(job: Job) -> Result<Verdict, Refusal>
     ensures kind { kind_in result ≡ decision_of job }
-    ensures listing { IfOk result (λ v. map number_of_held v.listing ≡ listing_record (declared_in job) job.extract job.query) }
-    ensures databases { IfOk result (λ v. HandsOut (declared_in job) job.extract job.query v.first v.second) }
+    ensures listing { IfOk result (λ v. map number_of_held v.listing ≡ listing_record job.declared job.extract job.query) }
+    ensures databases { IfOk result (λ v. HandsOut job.declared job.extract job.query v.first v.second) }
 {
     write_if_read(job, &mut [0u8; writer::MAX_JOB_BYTES])?;
-    let columns = job.columns;
-    let declared = Columns {
-        tables: job.tables,
-        width: job.width,
-        columns,
-    };
-    Ok(verdict::decide(declared, job.extract, job.query))
+    Ok(verdict::decide(job.declared, job.extract, job.query))
 }

@@ -16,7 +16,7 @@ use Rattle.model.proofs.Formed.{well_formed_lem}
 use Rattle.model.specs.Answers.{number_of_kind, number_of_held}
 use Rattle.model.specs.Verdict.{columns}
 use Rattle.job.specs.declared.Job.{Job}
-use Rattle.job.specs.Meaning.{declared_in, record_of}
+use Rattle.job.specs.Meaning.{record_of}
 use Rattle.layout.specs.declared.Refusal.{Refusal}
 use Rattle.layout.specs.Faults.{number_of_fault}
 use Rattle.layout.proofs.Faults.{read_numbered}
@@ -41,17 +41,17 @@ map_take f (suc n) (x ∷ l) = rw (map_take f n l)
 module _ (r : Job) {d : Result Verdict Refusal} (told : kind_in d ≡ decision_of r) where
   pub refused_record : {f : Refusal} → d ≡ Err f → refusal_text (number_of_fault f.fault) f.at ≡ record_text r
   unfolding record_text
-  refused_record e = ap (λ x. decision_text x (take r.width (listing_record (declared_in r) r.extract r.query))) (ap kind_in (sym e) ∙ told)
+  refused_record e = ap (λ x. decision_text x (take r.declared.width (listing_record r.declared r.extract r.query))) (ap kind_in (sym e) ∙ told)
 
-  pub judged_record : {v : Verdict} → d ≡ Ok v → map number_of_held v.listing ≡ listing_record (declared_in r) r.extract r.query
-      → verdict_text (number_of_kind v.kind) (map number_of_held (take r.width v.listing)) ≡ record_text r
+  pub judged_record : {v : Verdict} → d ≡ Ok v → map number_of_held v.listing ≡ listing_record r.declared r.extract r.query
+      → verdict_text (number_of_kind v.kind) (map number_of_held (take r.declared.width v.listing)) ≡ record_text r
   unfolding record_text
   judged_record {v} e listed =
-      rw (map_take number_of_held r.width v.listing, listed)
-      (ap (λ x. decision_text x (take r.width (listing_record (declared_in r) r.extract r.query))) (ap kind_in (sym e) ∙ told))
+      rw (map_take number_of_held r.declared.width v.listing, listed)
+      (ap (λ x. decision_text x (take r.declared.width (listing_record r.declared r.extract r.query))) (ap kind_in (sym e) ∙ told))
 
 -- ---- of the record of a job
-row_width : (j : model.Job) → (record_of j).width ≡ length (columns j)
+row_width : (j : model.Job) → (record_of j).declared.width ≡ length (columns j)
 unfolding record_of
 row_width j = refl
 
@@ -83,7 +83,7 @@ module _ (s : List ℕ) {d : Result Job Refusal} (is : d ≡ decoded_of (read_of
   whole_text e = ap answer_text (sym e ∙ is) ∙ text_read s
 
   -- a record that was read has a text of at most 81 bytes, and at most 16 columns
-  pub few_read : {r : Job} → d ≡ Ok r → (length (record_text r) ≤ 81) × (r.width ≤ 16)
+  pub few_read : {r : Job} → d ≡ Ok r → (length (record_text r) ≤ 81) × (r.declared.width ≤ 16)
   few_read {r} e =
       let (j, a, f) = whole_is (read_of s) r (sym is ∙ e) in
       let w = read_formed s j a in

@@ -4,7 +4,6 @@ use Rattle.base.specs.Lists.{tabulate}
 use Rattle.model.specs.Tables as model
 use Rattle.model.specs.Verdict.{columns, kind_of, listing_of}
 use Rattle.job.specs.declared.Job.{Job}
-use Rattle.job.specs.Meaning.{declared_in}
 use Rattle.layout.specs.Reading.{Reading, accepted, refused, read_of}
 use Rattle.layout.specs.declared.Refusal.{Refusal}
 use Rattle.layout.specs.Faults.{number_of_fault}
@@ -32,4 +31,4 @@ decision_text (Err f) listing = refusal_text (number_of_fault f.fault) f.at
 
 -- the listing is that of the declared columns alone
 unfoldable pub record_text : Job → List ℕ
-record_text r = decision_text (decision_of r) (take r.width (listing_record (declared_in r) r.extract r.query))
+record_text r = decision_text (decision_of r) (take r.declared.width (listing_record r.declared r.extract r.query))

@@ -71,10 +71,10 @@ fn verdict(out: &mut Output, kind: Kind, columns: &[Held])
 
 // The text of what is decided of a record.
 fn decided(out: &mut Output, job: Job)
-    requires { (Room out.old (record_text job)) × (job.width ≤ 16) }
+    requires { (Room out.old (record_text job)) × (job.declared.width ≤ 16) }
     ensures { Puts out.old out.new (record_text job) }
 {
-    let width = job.width;
+    let width = job.declared.width;
     match pobghine::decide(job) {
         Ok(v) => verdict(out, v.kind, &v.listing[..width]),
         Err(r) => refusal(out, r.fault, r.at),

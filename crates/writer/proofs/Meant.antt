@@ -21,7 +21,7 @@ use Rattle.writer.specs.Parts.{columns_in, column_in, table_bytes, tables_bytes,
 
 -- the parts of a record, in order: up to the tables, the extract, the query, the end
 abbrev pub to_tables : Job → List ℕ
-to_tables r = start_bytes ++ tables_bytes r
+to_tables r = start_bytes ++ tables_bytes r.declared
 
 abbrev pub to_extract : Job → List ℕ
 to_extract r = to_tables r ++ (0x20 ∷ expression_bytes r.extract)
@@ -54,7 +54,7 @@ columns_meant t (c ∷ cs) = go (eqb c.table t) (columns_meant t cs)
 
     go : (b : Bool) → flat_map (map (λ b. add_column b.lo b.hi) (table_in cs t)) entry_bytes ≡ flat_map cs (column_in t)
         → flat_map (map (λ b. add_column b.lo b.hi) (map bounds_of (cond b (c ∷ below) below))) entry_bytes
-        ≡ cond b (0x11 ∷ encoded 4 c.lo ++ encoded 4 c.hi) [] ++ flat_map cs (column_in t)
+        ≡ cond b (0x11 ∷ encoded 4 c.bounds.lo ++ encoded 4 c.bounds.hi) [] ++ flat_map cs (column_in t)
     go true e = rw e
     go false e = e
 
@@ -86,8 +86,8 @@ expression_meant e =
 pub meant : (r : Job) → job_bytes (meaning_of r) ≡ record_bytes r
 unfolding job_bytes entries_of job_of record_bytes tables_bytes
 meant r =
-    let cs = columns_in r in
-    let ts = take r.tables table_numbers in
+    let cs = columns_in r.declared in
+    let ts = take r.declared.tables table_numbers in
     let tables = flat_map (map (table_in cs) ts) table_entries in
     let extract = mark 0x20 ∷ expression_entries (expression_of r.extract) in
     let query = mark 0x21 ∷ expression_entries (expression_of r.query) in

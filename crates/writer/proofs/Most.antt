@@ -18,6 +18,7 @@ use Rattle.job.specs.declared.Column.{Column}
 use Rattle.job.specs.declared.Comparison.{Comparison}
 use Rattle.job.specs.declared.Clause.{Clause}
 use Rattle.job.specs.declared.Expression.{Expression}
+use Rattle.job.specs.declared.Columns.{Columns}
 use Rattle.job.specs.declared.Job.{Job}
 use Rattle.job.specs.Meaning.{side_of, table_numbers, meaning_of}
 use Rattle.layout.specs.Commands.{start_bytes}
@@ -65,7 +66,7 @@ columns_most (c ∷ cs) =
       length-append (column_in 2 c) (flat_map cs (column_in 2)),
       length-append (column_in 3 c) (flat_map cs (column_in 3)),
     )
-    (omega (arith, one_table c.table (0x11 ∷ encoded 4 c.lo ++ encoded 4 c.hi) refl, columns_most cs))
+    (omega (arith, one_table c.table (0x11 ∷ encoded 4 c.bounds.lo ++ encoded 4 c.bounds.hi) refl, columns_most cs))
 
 four : (f : ℕ → List ℕ) → length (flat_map table_numbers f) ≡ length (f 0) + length (f 1) + length (f 2) + length (f 3)
 four f = simp length-append (omega arith)
@@ -74,11 +75,11 @@ all_tables : (cs : List Column) → length (flat_map table_numbers (table_bytes 
 unfolding table_bytes
 all_tables cs = rw (four (table_bytes cs)) (omega (arith, columns_most cs))
 
-tables_most : (r : Job) → length r.columns ≡ 16 → length (tables_bytes r) ≤ 148
+tables_most : (k : Columns) → length k.columns ≡ 16 → length (tables_bytes k) ≤ 148
 unfolding tables_bytes
-tables_most r h =
-    let cs = columns_in r in
-    omega (arith, fewer (table_bytes cs) r.tables table_numbers, all_tables cs, length-take r.width r.columns)
+tables_most k h =
+    let cs = columns_in k in
+    omega (arith, fewer (table_bytes cs) k.tables table_numbers, all_tables cs, length-take k.width k.columns)
 
 -- ---- expressions
 comparison_most : (k : Comparison) → length (comparison_in k) ≤ 7
@@ -117,7 +118,7 @@ most r s =
       length-append (to_extract r) (0x21 ∷ expression_bytes r.query),
       length-append (to_tables r) (0x20 ∷ expression_bytes r.extract),
     )
-    (omega (arith, tables_most r s.columns, expression_most r.extract s.extract, expression_most r.query s.query))
+    (omega (arith, tables_most r.declared s.columns, expression_most r.extract s.extract, expression_most r.query s.query))
 
 -- ---- the whole: there is room for each part behind those before it, and in the end the job's bytes are there
 pub written : (r : Job) {old new : Output} {lent : List ℕ} → old.at ≡ 0 → (old.bytes.ghost_name ≡ new.bytes.ghost_name → lent ≡ new.bytes.now)
@@ -137,8 +138,8 @@ module _ (r : Job) (s : Sized r) {old : Output} (none : old.at ≡ 0) (h : 579 �
   room_to_extract = room_first (to_extract r) (0x21 ∷ expression_bytes r.query) room_to_query
 
   module _ {new : Output} where
-    pub room_tables : Puts old new start_bytes → Room new (tables_bytes r)
-    room_tables = room_next start_bytes (tables_bytes r) (room_first (to_tables r) (0x20 ∷ expression_bytes r.extract) room_to_extract)
+    pub room_tables : Puts old new start_bytes → Room new (tables_bytes r.declared)
+    room_tables = room_next start_bytes (tables_bytes r.declared) (room_first (to_tables r) (0x20 ∷ expression_bytes r.extract) room_to_extract)
 
     pub room_extract : Puts old new (to_tables r) → Room new (0x20 ∷ expression_bytes r.extract)
     room_extract = room_next (to_tables r) (0x20 ∷ expression_bytes r.extract) room_to_extract

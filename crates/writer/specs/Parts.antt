@@ -8,22 +8,22 @@ use Rattle.job.specs.declared.Comparison.{Comparison}
 use Rattle.job.specs.declared.Clause.{Clause}
 use Rattle.job.specs.declared.Condition.{Condition}
 use Rattle.job.specs.declared.Expression.{Expression}
-use Rattle.job.specs.declared.Job.{Job}
+use Rattle.job.specs.declared.Columns.{Columns}
 use Rattle.job.specs.Meaning.{side_of, table_numbers}
 use Rattle.layout.specs.Writing.{comparison_bytes}
 
-abbrev pub columns_in : Job → List Column
-columns_in r = take r.width r.columns
+abbrev pub columns_in : Columns → List Column
+columns_in k = take k.width k.columns
 
 -- a column's bytes among those of table t: none where it is of another
 abbrev pub column_in : ℕ → Column → List ℕ
-column_in t c = cond (eqb c.table t) (0x11 ∷ encoded 4 c.lo ++ encoded 4 c.hi) []
+column_in t c = cond (eqb c.table t) (0x11 ∷ encoded 4 c.bounds.lo ++ encoded 4 c.bounds.hi) []
 
 unfoldable pub table_bytes : List Column → ℕ → List ℕ
 table_bytes cs t = 0x10 ∷ flat_map cs (column_in t)
 
-unfoldable pub tables_bytes : Job → List ℕ
-tables_bytes r = flat_map (take r.tables table_numbers) (table_bytes (columns_in r))
+unfoldable pub tables_bytes : Columns → List ℕ
+tables_bytes k = flat_map (take k.tables table_numbers) (table_bytes (columns_in k))
 
 -- a command with each of some numbers
 abbrev pub each_bytes : ℕ → List ℕ → List ℕ

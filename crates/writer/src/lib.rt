@@ -12,7 +12,7 @@ ghost use Rattle.writer.specs.Parts.{columns_in, column_in, table_bytes, tables_
 ghost use Rattle.writer.specs.Parts.{each_bytes, comparison_in, clause_bytes, condition_bytes, expression_bytes};
 
 use base::Output;
-use job::{Clause, Column, Comparison, Condition, Expression, Job};
+use job::{Clause, Column, Columns, Comparison, Condition, Expression, Job};
 
 // The most bytes that a job has.
 pub const MAX_JOB_BYTES: usize = 579;
@@ -32,28 +32,28 @@ fn put_column(out: &mut Output, c: &Column, t: usize)
 {
     if usize::from(c.table) == t {
         out.put(0x11);
-        put_value(out, c.lo);
-        put_value(out, c.hi);
+        put_value(out, c.bounds.lo);
+        put_value(out, c.bounds.hi);
     }
 }
 
 // Table t: those of the columns that are its own.
-fn put_table(out: &mut Output, job: &Job, t: usize)
-    requires { Room out.old (table_bytes (columns_in job.now) t) }
-    ensures { Puts out.old out.new (table_bytes (columns_in job.now) t) }
+fn put_table(out: &mut Output, k: &Columns, t: usize)
+    requires { Room out.old (table_bytes (columns_in k.now) t) }
+    ensures { Puts out.old out.new (table_bytes (columns_in k.now) t) }
 {
     out.put(0x10);
-    for c in job.columns.iter().take(job.width) {
+    for c in k.columns.iter().take(k.width) {
         put_column(out, c, t);
     }
 }
 
-fn put_tables(out: &mut Output, job: &Job)
-    requires { Room out.old (tables_bytes job.now) }
-    ensures { Puts out.old out.new (tables_bytes job.now) }
+fn put_tables(out: &mut Output, k: &Columns)
+    requires { Room out.old (tables_bytes k.now) }
+    ensures { Puts out.old out.new (tables_bytes k.now) }
 {
-    for t in 0..job.tables.min(Job::TABLES) {
-        put_table(out, job, t);
+    for t in 0..k.tables.min(Job::TABLES) {
+        put_table(out, k, t);
     }
 }
 
@@ -125,7 +125,7 @@ pub fn write(job: Job, out: &mut [u8]) -> usize
 {
     let mut to = Output { bytes: out, at: 0 };
     to.put_all(b"PSJ1");
-    put_tables(&mut to, &job);
+    put_tables(&mut to, &job.declared);
     put_expression(&mut to, 0x20, &job.extract);
     put_expression(&mut to, 0x21, &job.query);
     to.put(0xFF);

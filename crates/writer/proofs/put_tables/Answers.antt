@@ -25,11 +25,11 @@ unfolding tables_bytes
 loop-t-init c = left_all c.requires
 
 pub put_table-requires : goal.put_table-requires
-put_table-requires c = left_room (one_left c.args.job.now.tables c.loop-t.t (omega arith)) c.loop-t.invariant
+put_table-requires c = left_room (one_left c.args.k.now.tables c.loop-t.t (omega arith)) c.loop-t.invariant
 
 pub loop-t-preserved : goal.loop-t-preserved
-loop-t-preserved c = left_next (one_left c.args.job.now.tables c.loop-t.t (omega arith)) c.loop-t.invariant c.put_table.ensures
+loop-t-preserved c = left_next (one_left c.args.k.now.tables c.loop-t.t (omega arith)) c.loop-t.invariant c.put_table.ensures
 
 pub returns : goal.returns
 unfolding tables_bytes
-returns c = left_none (none_left c.args.job.now.tables c.loop-t.t (omega arith)) c.loop-t.invariant
+returns c = left_none (none_left c.args.k.now.tables c.loop-t.t (omega arith)) c.loop-t.invariant

@@ -7,4 +7,4 @@ use Rattle.writer.proofs.put_tables.Given as goal
 
 abbrev pub invariant-loop-t : goal.invariant-loop-t
 invariant-loop-t l =
-    Left (table_bytes (columns_in l.job)) (take l.job.tables table_numbers) (drop l.t (take l.job.tables table_numbers)) l.initial.out l.out
+    Left (table_bytes (columns_in l.k)) (take l.k.tables table_numbers) (drop l.t (take l.k.tables table_numbers)) l.initial.out l.out
