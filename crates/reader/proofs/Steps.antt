@@ -2,9 +2,8 @@
 use mathlib.Core.Path.{◌≡◌}
 use mathlib.Core.Bool.{Bool, true, false}
 use mathlib.Core.List.{List}
-use Prim.Native.Nat.{ℕ, ◌+◌, ◌≤◌, ◌<◌}
+use Prim.Native.Nat.{ℕ, ◌≤◌, ◌<◌}
 use lib.ListN.{length, get_or}
-use lib.Dec.{leb}
 use borrow.Author.Tests.{lt-ltb, le-ltb}
 use Rattle.std.specs.Prelude.{None, Some, Result, Err}
 use Rattle.layout.specs.declared.Command.{Command}
@@ -15,10 +14,6 @@ use Rattle.layout.specs.Commands.{command_of}
 use Rattle.layout.specs.Reading.{follows, has_room, has_operands, taken, step_of}
 use Rattle.commands.specs.Reached.{Reached}
 use Rattle.commands.specs.Uses.{refused_at, stepped_of}
-
--- what `has_bytes` answered of a command's operands
-pub bytes_are : {r : Bool} (at len n m : ℕ) → r ≡ leb (at + 1 + n) len → n ≡ m → r ≡ leb (at + 1 + m) len
-bytes_are at len n m q e = rw e at q
 
 module _ (s : List ℕ) (p : Reached) where
   pub step_none : length s ≤ p.at → (Err (refusal_of 2 (length s)), p) ≡ stepped_of p (step_of s p.at p.state)
@@ -49,3 +44,6 @@ module _ (s : List ℕ) (p : Reached) where
           → (refused_at p.at (Err NoOperands), p) ≡ stepped_of p (step_of s p.at p.state)
       unfolding step_of taken
       too_short f g k = rw (lt-ltb p.at (length s) below, is, f, g, k)
+
+-- the refusals 3 to 6
+pub ruleset refusals = (unlisted, not_due, no_room, too_short)

@@ -22,6 +22,7 @@ fn missing(s: &[u8]) -> Refusal
 }
 
 // The command that is due, through the checks 3 to 10: whether the job ends with it.
+#[tactic(auto, using(crate::proofs::Steps::refusals))]
 fn take(s: &[u8], p: &mut Progress) -> Result<bool, Fault>
     requires { p.old.at < length s.now }
     ensures { (refused_at p.old.at result, p.new) ≡ stepped_of p.old (step_of s.now p.old.at p.old.state) }
