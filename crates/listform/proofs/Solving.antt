@@ -1,6 +1,6 @@
 -- What stands in the bytes of a list is what the solver asks for. Assumes nothing.
 use mathlib.Core.Path.{◌≡◌, ◌∙◌, sym}
-use mathlib.Core.Bool.{Bool, true, ◌&&◌}
+use mathlib.Core.Bool.{Bool, true, false, cond, ◌&&◌}
 use mathlib.Core.List.{List, map}
 use Prim.Native.Nat.{ℕ, zero, suc, ◌+◌, ◌-◌, ◌*◌, ◌^◌, ◌<◌, ◌≤◌}
 use native.Mathlib.Omega.{arith}
@@ -12,6 +12,7 @@ use mir.Facts.{and_yes, yes_and}
 use borrow.Author.Tests.{ne_eqb}
 use Rattle.std.specs.List.{list_all}
 use Rattle.base.specs.Lists.{all_of, tabulate}
+use Rattle.base.specs.Options.{is_some}
 use Rattle.base.proofs.Tests.{is_T, cond_less}
 use Rattle.base.proofs.Places.{tabulate_length, map_tabulate}
 use Rattle.words.specs.Word.{number_of, sign_bit, value_at}
@@ -20,8 +21,10 @@ use Rattle.model.specs.Least.{least_row}
 use Rattle.job.specs.declared.Comparison.{Comparison}
 use Rattle.job.specs.Meaning.{side_of, comparison_of}
 use Rattle.solver.specs.Solver.{fits, bounds_fit, against_fits, comparison_fits}
+use Rattle.solver.specs.Lists.{row_or_zeros}
 use Rattle.solver.specs.Uses.{Solves}
-use Rattle.listform.specs.Form.{first_bounds, first_comparison, bounds_in, comparisons_in, in_order, among, fitting, is_list, least}
+use Rattle.listform.specs.Form.{first_bounds, first_comparison, bounds_in, comparisons_in, in_order, among, fitting, is_list, least, found_in}
+use Rattle.listform.specs.declared.Found.TheVariants.{Unmet, Met, NoList}
 
 -- ---- values
 value_fits : (s : List ℕ) (k : ℕ) → T (fits (value_at 4 s k))
@@ -79,15 +82,15 @@ module _ (n : ℕ) (s : List ℕ) where
 
 -- ---- what was read of the bytes
 module _ (n m : ℕ) (s : List ℕ) {bs : List Bounds} {ks : List Comparison} (b : bs ≡ bounds_in n s) (k : ks ≡ comparisons_in n m s) where
-  pub list_is : {r : Bool} → r ≡ fitting bs ks → is_list n m s ≡ r
+  list_is : {fits : Bool} → fits ≡ fitting bs ks → is_list n m s ≡ fits
   unfolding is_list
-  list_is {r} e = sym (rw (b, k) at e)
+  list_is {fits} e = sym (rw (b, k) at e)
 
-  pub least_is : least_row bs (map comparison_of ks) ≡ least n m s
+  least_is : least_row bs (map comparison_of ks) ≡ least n m s
   unfolding least
   least_is = rw (b, k)
 
-  pub size_is : length bs ≡ n
+  size_is : length bs ≡ n
   size_is = rw b (bounds_length n s)
 
   -- it is what the solver asks for
@@ -100,3 +103,21 @@ module _ (n m : ℕ) (s : List ℕ) {bs : List Bounds} {ks : List Comparison} (b
         fit = rw (size_is, k) (comparisons_fitting n s m (rw (size_is, k) at t));
         room = room ∙ sym size_is;
       }
+
+  -- what is found, by whether they fit and whether some row meets them
+  module _ {fits : Bool} (is : fits ≡ fitting bs ks) where
+    pub unlisted : fits ≡ false → NoList ≡ found_in n m s
+    unfolding found_in
+    unlisted out = rw (list_is is, out)
+
+    pub listed : fits ≡ true → {some : Bool} → some ≡ is_some (least_row bs (map comparison_of ks)) → cond some Met Unmet ≡ found_in n m s
+    unfolding found_in
+    listed fit e = rw (list_is is, fit, ← least_is, e)
+
+    -- and the row that is left: as it was, or the least
+    pub row_kept : fits ≡ false → (row : List ℤ) → row ≡ cond (is_list n m s) (row_or_zeros n (least n m s)) row
+    row_kept out row = rw (list_is is, out)
+
+    pub row_least : fits ≡ true → {row : List ℤ} (old : List ℤ) → row ≡ row_or_zeros (length bs) (least_row bs (map comparison_of ks))
+        → row ≡ cond (is_list n m s) (row_or_zeros n (least n m s)) old
+    row_least fit old e = rw (list_is is, fit, ← least_is) (rw size_is at e)

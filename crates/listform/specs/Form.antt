@@ -1,5 +1,5 @@
--- A list of comparisons in bytes: of each of n columns lo and hi, then of each of m comparisons op, left, right and number. Values have four
--- bytes, the others one. Left is a column; right is 0 where the number is meant, else a column, one more.
+-- A list of comparisons in bytes: of each of n columns lo and hi, then of each of m comparisons op, left, right and number. Values have
+-- four bytes, the others one. Left is a column; right is 0 where the number is meant, else a column, one more.
 use Rattle.std.specs.Prelude.{Bool, cond, ◌&&◌, List, ◌∷◌, map, ℕ, ◌+◌, ◌*◌, length, replicate, drop, ℤ, pos, ltb}
 use Rattle.std.proofs.Math.Option.{Option}
 use Rattle.std.specs.Int.Signed.{le_z}

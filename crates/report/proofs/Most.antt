@@ -49,17 +49,19 @@ kind_few : (j : Job) → kind_of j < 256
 unfolding kind_of
 kind_few j = let few = first_few (kind1 j) (kind2 j) (kind3 j) (kind4 j) in omega (arith, few)
 
-pub job_most : (j : Job) → T (well_formed j) → length (job_text j) ≤ 81
+verdict_most : (kind : ℕ) → kind < 256 → (f : ℕ → ℕ) → ((i : ℕ) → f i < 256) → (n : ℕ) → n ≤ 16 → length (verdict_text kind (tabulate n f)) ≤ 81
 unfolding verdict_text
-job_most j w =
-    let kind = kind_of j in
-    let n = length (columns j) in
-    let listing = tabulate n (listing_of j) in
-    let one = byte_few kind (kind_few j) in
-    let rest = columns_most (listing_of j) (λ i. omega (arith, listing_neither j i)) n in
+verdict_most kind byte f bytes n few =
+    let one = byte_few kind byte in
+    let rest = columns_most f bytes n in
     rw (
-      length-append (field "kind " kind ++ ascii "\ncolumns" ++ flat_map listing (field " ")) (ascii "\n"),
-      length-append (field "kind " kind ++ ascii "\ncolumns") (flat_map listing (field " ")),
+      length-append (field "kind " kind ++ ascii "\ncolumns" ++ flat_map (tabulate n f) (field " ")) (ascii "\n"),
+      length-append (field "kind " kind ++ ascii "\ncolumns") (flat_map (tabulate n f) (field " ")),
       length-append (field "kind " kind) (ascii "\ncolumns"),
     )
-    (omega (arith, one, rest, (well_formed_lem j w).limits.few_columns))
+    (omega (arith, one, rest))
+
+pub job_most : (j : Job) → T (well_formed j) → length (job_text j) ≤ 81
+job_most j w =
+    verdict_most (kind_of j) (kind_few j) (listing_of j) (λ i. omega (arith, listing_neither j i)) (length (columns j))
+    (well_formed_lem j w).limits.few_columns

@@ -17,8 +17,8 @@ use model::{Held, Kind};
 // Enough bytes for every text: a verdict would take as many if its kind and the listing of 16 columns had three digits each.
 pub const MOST: usize = 81;
 
-// A number in decimal, since std's printing says nothing of the bytes of a lent slice. Dividing gives its last digit first, so a call within
-// puts those before it.
+// A number in decimal, since std's printing says nothing of the bytes of a lent slice. Dividing gives its last digit first, so a call
+// within puts those before it.
 fn put_digits(out: &mut Output, n: usize)
     requires { Room out.old (digits n) }
     ensures { Puts out.old out.new (digits n) }
