@@ -21,15 +21,14 @@ fn put_head(output: &mut impl Write, number: u8, n: usize) -> Result<()> {
     output.write_all(&head)
 }
 
-// A database from a place on.
-fn put_database(d: Database, out: &mut [u8], at: usize)
-    requires { at + 68 ≤ length out.old }
+fn put_database(d: Database, out: &mut [u8])
+    requires { 68 ≤ length out.old }
 {
     for (t, present) in d.present.iter().enumerate() {
-        out[at + t] = u8::from(*present);
+        out[t] = u8::from(*present);
     }
     for (c, value) in d.values.iter().enumerate() {
-        words::write(out, at + Job::TABLES + c * 4, *value);
+        words::write(out, Job::TABLES + c * 4, *value);
     }
 }
 
@@ -39,8 +38,8 @@ fn put_verdict(output: &mut impl Write, v: Verdict) -> Result<()> {
     for (c, held) in v.listing.iter().enumerate() {
         out[1 + c] = u8::from(*held);
     }
-    put_database(v.first, &mut out, 17);
-    put_database(v.second, &mut out, 85);
+    put_database(v.first, &mut out[17..85]);
+    put_database(v.second, &mut out[85..]);
     output.write_all(&out)
 }
 
