@@ -7,10 +7,9 @@
 mod failure;
 mod wait;
 
-ghost use Rattle.std.specs.Prelude.{◌<◌, length, take, IfOk, IfErr, OnOk, IfSome};
+ghost use Rattle.std.specs.Prelude.{◌<◌, ◌≤◌, length, take, IfOk, IfErr, OnOk, IfSome};
 ghost use Rattle.std.specs.Io.KnownBytes.{Appends, Consumes, IsAtEnd};
 ghost use Rattle.report.specs.Printed.{printed};
-ghost use Rattle.decide.specs.AtMost.{AtMost};
 ghost use Rattle.decide.specs.Silent.{Silent};
 
 use failure::Failure;
@@ -25,7 +24,7 @@ const ENOUGH: usize = 600;
 // two loops: one function for both would take the call as a closure, over a stream and bytes that are lent to be read or to be written, and
 // its contract would speak of any closure's calls before either could say what its stream then has.
 fn read_input<R: Read>(clock: &impl Clock, input: &mut R, s: &mut [u8]) -> io::Result<usize>
-    ensures within { AtMost (length s.new) result }
+    ensures within { IfOk result (λ n. n ≤ length s.new) }
     ensures bytes { IfOk result (λ n. Consumes (R.remaining input.old) (R.remaining input.new) (take n s.new)) }
     ensures end { IfOk result (λ n. n < length s.new → IsAtEnd (R.remaining input.new)) }
 {
