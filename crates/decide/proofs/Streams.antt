@@ -24,10 +24,6 @@ read_more a b c at n old new rest h k first second =
 rest_of : (at : ℕ) (s : List ℕ) → take (length s - at) (drop at s) ≡ drop at s
 rest_of at s = take_all (length s - at) (drop at s) (omega (arith, length-drop at s))
 
-pub put_within : (at n : ℕ) (s : List ℕ) → at ≤ length s → n ≤ length (take (length s - at) (drop at s)) → at + n ≤ length s
-put_within at n s h k =
-    let few = rw (rest_of at s) at k in omega (arith, few, length-drop at s)
-
 -- one write more
 pub write_more : (a b c : Option (List ℕ)) (at n : ℕ) (s : List ℕ)
     → Appends a b (take at s) → Appends b c (take n (take (length s - at) (drop at s))) → Appends a c (take (at + n) s)
