@@ -69,7 +69,12 @@ pub fn read(s: &[u8]) -> Result<Job, Refusal>
     }
     let mut p = Progress::new();
     for _ in 0..s.len() {
-        if step(s, &mut p)? {
+        // taken apart by let .. else, as document 01 has it
+        let took = step(s, &mut p);
+        let Ok(ended) = took else {
+            return Err(took.unwrap_err());
+        };
+        if ended {
             let at = p.at();
             if at != s.len() {
                 return Err(Refusal {
