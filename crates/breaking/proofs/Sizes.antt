@@ -19,25 +19,6 @@ use Rattle.solver.specs.Comparisons.{negations_of}
 use Rattle.conditions.specs.Uses.{Small}
 use Rattle.breaking.specs.Breaking.{same_constraint, with_way, with_second, with_ways, with_clause, ways_of, free, choices_of}
 
--- ---- The ways of a clause
-
-pub way_length : (ws : List Constraint) (c : Constraint) → length (with_way ws c) ≤ length ws + 1
-way_length ws c = go (any_of (same_constraint c) ws)
-  where
-    go : (b : Bool) → length (cond b ws (ws ++ c ∷ [])) ≤ length ws + 1
-    go true = omega arith
-    go false = omega (arith, length-append ws (c ∷ []))
-
-second_length : (ws : List Constraint) (o : Option Constraint) → length (with_second ws o) ≤ length ws + 1
-second_length ws None = omega arith
-second_length ws (Some c) = way_length ws c
-
-clause_length : (ws : List Constraint) (c : model.Clause) → length (with_clause ws c) ≤ length ws + 2 * length c
-clause_length ws [] = omega arith
-clause_length ws (k ∷ c) =
-    let p = negations_of k in
-    omega (arith, clause_length (with_ways ws p) c, second_length (with_way ws p.first) p.second, way_length ws p.first)
-
 -- ---- The choices of a condition
 
 -- the ways of a clause that isn't there

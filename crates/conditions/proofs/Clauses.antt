@@ -17,10 +17,6 @@ use Rattle.conditions.specs.Uses.{ClauseFits, ConditionFits}
 pub condition_length : (k : Condition) → k.size ≤ length k.clauses → length (condition_of k) ≡ k.size
 condition_length k fit = length-map (take k.size k.clauses) clause_of ∙ length-take-le k.size k.clauses fit
 
--- the array holds as many clauses as count
-pub few : {n : ℕ} {k : Condition} → ConditionFits n k → length k.clauses ≡ 4 → k.size ≤ length k.clauses
-few u four = omega (arith, u.small.clauses)
-
 -- ---- the clauses of a condition as a slice of its record
 
 abbrev pub items : Condition → List Clause

@@ -31,6 +31,13 @@ pub record Ready (n : ℕ) (k : Choices) (o : List ℕ) : Type 0 where
   pub fit : ChoicesFit n k
   pub order : Four o
 
+-- o is the order by what the clauses weigh
+pub order_four : (a : List ℕ) {o : List ℕ} → o ≡ order_by a → Four o
+order_four a is = rw is (record { four = length-ordered a; below = order_below a })
+
+pub ready_by : {n : ℕ} {k : Choices} (a : List ℕ) {o : List ℕ} → ChoicesFit n k → o ≡ order_by a → Ready n k o
+ready_by a fit is = record { fit = fit; order = order_four a is }
+
 -- the clauses in that order
 abbrev pub ordered : Choices → List ℕ → List (List Constraint)
 ordered k o = in_order o (choices_in k)
@@ -50,10 +57,6 @@ tried ks j z c = and_then (chosen z c (drop (suc j) ks)) (λ y. broken y (drop (
 later_is : (k : Choices) (o : List ℕ) (j : ℕ) → in_order (drop j o) (choices_in k) ≡ drop j (ordered k o)
 unfolding in_order
 later_is k o j = sym (drop-map _ j o)
-
--- the numbers from place j on, as the code cuts them from an array of four
-pub from_place : {o : List ℕ} → Four o → (j : ℕ) → take (4 - j) (drop j o) ≡ drop j o
-from_place {o} f j = let four = f.four in take_all (4 - j) (drop j o) (omega (arith, length-drop j o))
 
 -- a loop over the ways of clause j for the rows of the zone x, in a search for o: before way i nothing was found
 pub record Trying (n : ℕ) (k : Choices) (o : List ℕ) (goal : Option Zone) (j : ℕ) (x : Zone) (i : ℕ) (found : Bool) : Type 0 where
@@ -90,8 +93,15 @@ module _ {n : ℕ} {k : Choices} {o : List ℕ} {goal : Option Zone} {j : ℕ} {
   fits : WaysFit n (level k o j)
   fits = l.ready.fit.each (at o j) (l.ready.order.below j l.in_four)
 
-  -- us are the ways as the code has them, and d stands for what is past their end; ns are the numbers of the later clauses
-  module _ {us : List Constraint} (is : us ≡ level k o j) (d : Constraint) (more : i < length us) {ns : List ℕ} (after : ns ≡ drop (suc j) o) where
+  -- the numbers of the later clauses, as the code cuts them from an array of four
+  abbrev ns : List ℕ
+  ns = take (4 - suc j) (drop (suc j) o)
+
+  after : ns ≡ drop (suc j) o
+  after = let four = l.ready.order.four in take_all (4 - suc j) (drop (suc j) o) (omega (arith, length-drop (suc j) o))
+
+  -- us are the ways as the code has them, and d stands for what is past their end
+  module _ {us : List Constraint} (is : us ≡ level k o j) (d : Constraint) (more : i < length us) where
     h : i < length (level k o j)
     h = rw is at more
 
@@ -166,9 +176,6 @@ module _ {n : ℕ} {k : Choices} {o : List ℕ} {goal : Option Zone} {j : ℕ} {
           ends_some e (deeper some_row e (rw all-broken))
 
 -- ---- the whole search: o is the order, a what the clauses weigh
-pub order_four : (a : List ℕ) {o : List ℕ} → o ≡ order_by a → Four o
-order_four a is = rw is (record { four = length-ordered a; below = order_below a })
-
 pub search_is : (z : Zone) (count : ℕ) (ks : List (List Constraint)) (a : List ℕ) {o : List ℕ} → a ≡ weights z count ks → o ≡ order_by a
     → broken z (in_order o ks) ≡ broken_by z count ks
 unfolding broken_by

@@ -75,12 +75,12 @@ unfolding twins_record twins_of twin_bounds
 first_bounds bs stored = rw append_assoc (take-append_seam bs _)
 
 -- ---- the arrays of the records have their lengths
-pub sizes : (k : Columns) (extract query : Expression) (us vs ws : List Val) → Is declared_columns.the_row k us → Is expression.the_row extract vs
-    → Is expression.the_row query ws → Sized (problem k extract query)
-sizes k extract query us vs ws a b c = record {
-  columns = sized_columns k us a;
-  extract = sized_expression extract vs b;
-  query = sized_expression query ws c;
+pub sizes : {k : Columns} {extract query : Expression} {us vs ws : List Val} {Rest : Type 0}
+    → Is declared_columns.the_row k us × (Is expression.the_row extract vs × (Is expression.the_row query ws × Rest)) → Sized (problem k extract query)
+sizes {k} {extract} {query} {us} {vs} {ws} are = record {
+  columns = sized_columns k us are.0;
+  extract = sized_expression extract vs are.1.0;
+  query = sized_expression query ws are.1.1.0;
 }
 
 -- ---- columns, an extract and a query that reading gives, with two rows as one

@@ -2,7 +2,7 @@ use borrow.Author.Rules.{rules}
 use native.Mathlib.Omega.{arith}
 use mathlib.Core.Path.{refl, sym, ◌∙◌}
 use Rattle.conditions.proofs.Meeting.{Ends, ends_none}
-use Rattle.search.proofs.Levels.{level_small, from_place, level_start, level_end, level_asks, turn_down, turn_barren, turn_shut, turn_ends, order_four, search_is}
+use Rattle.search.proofs.Levels.{ready_by, level_small, level_start, level_end, level_asks, turn_down, turn_barren, turn_shut, turn_ends, order_four, search_is}
 use Rattle.search.proofs.broken.Goals as goal
 use Rattle.search.proofs.broken.Goals.{else-choose, else-choose-2, else-choose-3, then-choose+else-two-test, then-choose-2+else-three-test, then-choose-3+else-four-test}
 
@@ -10,101 +10,101 @@ pub weigh-requires : goal.weigh-requires
 weigh-requires g c = (search rules, c.requires)
 
 pub offset_bounds-k-order : goal.offset_bounds-k-order
-offset_bounds-k-order g c = omega (arith, (order_four c.weigh.result c.order_by-order.ensures).below 0 (omega arith))
+offset_bounds-k-order g c = omega (arith, (order_four _ c.order_by-order.ensures).below 0 (omega arith))
 
 pub bounds-k-order : goal.bounds-k-order
-bounds-k-order g c = (order_four c.weigh.result c.order_by-order.ensures).below 0 (omega arith)
+bounds-k-order g c = (order_four _ c.order_by-order.ensures).below 0 (omega arith)
 
 pub as_slice-one-requires : goal.as_slice-one-requires
 as_slice-one-requires g c =
-    level_small (record { fit = c.requires.choices; order = order_four c.weigh.result c.order_by-order.ensures }) 0 (omega arith)
+    level_small (ready_by _ c.requires.choices c.order_by-order.ensures) 0 (omega arith)
 
 pub offset_bounds-k-order-2 : goal.offset_bounds-k-order-2
-offset_bounds-k-order-2 g c = omega (arith, (order_four c.weigh.result c.order_by-order.ensures).below 1 (omega arith))
+offset_bounds-k-order-2 g c = omega (arith, (order_four _ c.order_by-order.ensures).below 1 (omega arith))
 
 pub bounds-k-order-2 : goal.bounds-k-order-2
-bounds-k-order-2 g c = (order_four c.weigh.result c.order_by-order.ensures).below 1 (omega arith)
+bounds-k-order-2 g c = (order_four _ c.order_by-order.ensures).below 1 (omega arith)
 
 pub as_slice-two-requires : goal.as_slice-two-requires
 as_slice-two-requires g c =
-    level_small (record { fit = c.requires.choices; order = order_four c.weigh.result c.order_by-order.ensures }) 1 (omega arith)
+    level_small (ready_by _ c.requires.choices c.order_by-order.ensures) 1 (omega arith)
 
 pub offset_bounds-k-order-3 : goal.offset_bounds-k-order-3
-offset_bounds-k-order-3 g c = omega (arith, (order_four c.weigh.result c.order_by-order.ensures).below 2 (omega arith))
+offset_bounds-k-order-3 g c = omega (arith, (order_four _ c.order_by-order.ensures).below 2 (omega arith))
 
 pub bounds-k-order-3 : goal.bounds-k-order-3
-bounds-k-order-3 g c = (order_four c.weigh.result c.order_by-order.ensures).below 2 (omega arith)
+bounds-k-order-3 g c = (order_four _ c.order_by-order.ensures).below 2 (omega arith)
 
 pub as_slice-three-requires : goal.as_slice-three-requires
 as_slice-three-requires g c =
-    level_small (record { fit = c.requires.choices; order = order_four c.weigh.result c.order_by-order.ensures }) 2 (omega arith)
+    level_small (ready_by _ c.requires.choices c.order_by-order.ensures) 2 (omega arith)
 
 pub offset_bounds-k-order-4 : goal.offset_bounds-k-order-4
-offset_bounds-k-order-4 g c = omega (arith, (order_four c.weigh.result c.order_by-order.ensures).below 3 (omega arith))
+offset_bounds-k-order-4 g c = omega (arith, (order_four _ c.order_by-order.ensures).below 3 (omega arith))
 
 pub bounds-k-order-4 : goal.bounds-k-order-4
-bounds-k-order-4 g c = (order_four c.weigh.result c.order_by-order.ensures).below 3 (omega arith)
+bounds-k-order-4 g c = (order_four _ c.order_by-order.ensures).below 3 (omega arith)
 
 pub as_slice-four-requires : goal.as_slice-four-requires
 as_slice-four-requires g c =
-    level_small (record { fit = c.requires.choices; order = order_four c.weigh.result c.order_by-order.ensures }) 3 (omega arith)
+    level_small (ready_by _ c.requires.choices c.order_by-order.ensures) 3 (omega arith)
 
 pub one-init : goal.one-init
 one-init g c =
-    level_start (record { fit = c.requires.choices; order = order_four c.weigh.result c.order_by-order.ensures }) 0 (omega arith)
+    level_start (ready_by _ c.requires.choices c.order_by-order.ensures) 0 (omega arith)
     refl
-    (λ y e. sym (search_is _ _ _ c.weigh.result c.weigh.ensures c.order_by-order.ensures) ∙ e) refl
+    (λ y e. sym (search_is _ _ _ _ c.weigh.ensures c.order_by-order.ensures) ∙ e) refl
 
 pub choose-requires : goal.choose-requires
-choose-requires g c = (search rules, level_asks c.one.invariant c.as_slice-one.ensures _ c.one-test.true (from_place c.one.invariant.ready.order 1))
+choose-requires g c = (search rules, level_asks c.one.invariant c.as_slice-one.ensures _ c.one-test.true)
 
 pub two-init : goal.two-init
-two-init g c = turn_down c.one.invariant c.as_slice-one.ensures _ c.one-test.true (from_place c.one.invariant.ready.order 1) _ (c.choose.ensures.answer, c.choose.ensures.zone) (omega arith) c.if-choose.true
+two-init g c = turn_down c.one.invariant c.as_slice-one.ensures _ c.one-test.true _ (c.choose.ensures.answer, c.choose.ensures.zone) (omega arith) c.if-choose.true
 
 pub choose-requires-in-two : goal.choose-requires-in-two
-choose-requires-in-two g c = (search rules, level_asks c.two.invariant c.as_slice-two.ensures _ c.two-test.true (from_place c.two.invariant.ready.order 2))
+choose-requires-in-two g c = (search rules, level_asks c.two.invariant c.as_slice-two.ensures _ c.two-test.true)
 
 pub three-init : goal.three-init
-three-init g c = turn_down c.two.invariant c.as_slice-two.ensures _ c.two-test.true (from_place c.two.invariant.ready.order 2) _ (c.choose-in-two.ensures.answer, c.choose-in-two.ensures.zone) (omega arith) c.if-choose-2.true
+three-init g c = turn_down c.two.invariant c.as_slice-two.ensures _ c.two-test.true _ (c.choose-in-two.ensures.answer, c.choose-in-two.ensures.zone) (omega arith) c.if-choose-2.true
 
 pub choose-requires-in-three : goal.choose-requires-in-three
-choose-requires-in-three g c = (search rules, level_asks c.three.invariant c.as_slice-three.ensures _ c.three-test.true (from_place c.three.invariant.ready.order 3))
+choose-requires-in-three g c = (search rules, level_asks c.three.invariant c.as_slice-three.ensures _ c.three-test.true)
 
 pub four-init : goal.four-init
-four-init g c = turn_down c.three.invariant c.as_slice-three.ensures _ c.three-test.true (from_place c.three.invariant.ready.order 3) _ (c.choose-in-three.ensures.answer, c.choose-in-three.ensures.zone) (omega arith) c.if-choose-3.true
+four-init g c = turn_down c.three.invariant c.as_slice-three.ensures _ c.three-test.true _ (c.choose-in-three.ensures.answer, c.choose-in-three.ensures.zone) (omega arith) c.if-choose-3.true
 
 pub choose-requires-in-four : goal.choose-requires-in-four
-choose-requires-in-four g c = (search rules, level_asks c.four.invariant c.as_slice-four.ensures _ c.four-test.true (from_place c.four.invariant.ready.order 4))
+choose-requires-in-four g c = (search rules, level_asks c.four.invariant c.as_slice-four.ensures _ c.four-test.true)
 
 pub four-preserved : goal.four-preserved
-four-preserved g c = turn_shut c.four.invariant c.as_slice-four.ensures _ c.four-test.true (from_place c.four.invariant.ready.order 4) _ (c.choose-in-four.ensures.answer, c.choose-in-four.ensures.zone) c.if-choose-4.false refl
+four-preserved g c = turn_shut c.four.invariant c.as_slice-four.ensures _ c.four-test.true _ (c.choose-in-four.ensures.answer, c.choose-in-four.ensures.zone) c.if-choose-4.false refl
 
 pub three-preserved : goal.three-preserved
 three-preserved g c = elim c.if-choose-3.branch [
-  | then-choose-3+else-four-test s ↦ turn_barren c.three.invariant c.as_slice-three.ensures _ c.three-test.true (from_place c.three.invariant.ready.order 3) _ (c.choose-in-three.ensures.answer, c.choose-in-three.ensures.zone) s.if-choose-3.true s.four.invariant c.as_slice-four.ensures s.four-test.false s.found-is
-  | else-choose-3 s ↦ turn_shut c.three.invariant c.as_slice-three.ensures _ c.three-test.true (from_place c.three.invariant.ready.order 3) _ (c.choose-in-three.ensures.answer, c.choose-in-three.ensures.zone) s.if-choose-3.false s.found-is
+  | then-choose-3+else-four-test s ↦ turn_barren c.three.invariant c.as_slice-three.ensures _ c.three-test.true _ (c.choose-in-three.ensures.answer, c.choose-in-three.ensures.zone) s.if-choose-3.true s.four.invariant c.as_slice-four.ensures s.four-test.false s.found-is
+  | else-choose-3 s ↦ turn_shut c.three.invariant c.as_slice-three.ensures _ c.three-test.true _ (c.choose-in-three.ensures.answer, c.choose-in-three.ensures.zone) s.if-choose-3.false s.found-is
 ]
 
 pub two-preserved : goal.two-preserved
 two-preserved g c = elim c.if-choose-2.branch [
-  | then-choose-2+else-three-test s ↦ turn_barren c.two.invariant c.as_slice-two.ensures _ c.two-test.true (from_place c.two.invariant.ready.order 2) _ (c.choose-in-two.ensures.answer, c.choose-in-two.ensures.zone) s.if-choose-2.true s.three.invariant c.as_slice-three.ensures s.three-test.false s.found-is
-  | else-choose-2 s ↦ turn_shut c.two.invariant c.as_slice-two.ensures _ c.two-test.true (from_place c.two.invariant.ready.order 2) _ (c.choose-in-two.ensures.answer, c.choose-in-two.ensures.zone) s.if-choose-2.false s.found-is
+  | then-choose-2+else-three-test s ↦ turn_barren c.two.invariant c.as_slice-two.ensures _ c.two-test.true _ (c.choose-in-two.ensures.answer, c.choose-in-two.ensures.zone) s.if-choose-2.true s.three.invariant c.as_slice-three.ensures s.three-test.false s.found-is
+  | else-choose-2 s ↦ turn_shut c.two.invariant c.as_slice-two.ensures _ c.two-test.true _ (c.choose-in-two.ensures.answer, c.choose-in-two.ensures.zone) s.if-choose-2.false s.found-is
 ]
 
 pub one-preserved : goal.one-preserved
 one-preserved g c = elim c.if-choose.branch [
-  | then-choose+else-two-test s ↦ turn_barren c.one.invariant c.as_slice-one.ensures _ c.one-test.true (from_place c.one.invariant.ready.order 1) _ (c.choose.ensures.answer, c.choose.ensures.zone) s.if-choose.true s.two.invariant c.as_slice-two.ensures s.two-test.false s.found-is
-  | else-choose s ↦ turn_shut c.one.invariant c.as_slice-one.ensures _ c.one-test.true (from_place c.one.invariant.ready.order 1) _ (c.choose.ensures.answer, c.choose.ensures.zone) s.if-choose.false s.found-is
+  | then-choose+else-two-test s ↦ turn_barren c.one.invariant c.as_slice-one.ensures _ c.one-test.true _ (c.choose.ensures.answer, c.choose.ensures.zone) s.if-choose.true s.two.invariant c.as_slice-two.ensures s.two-test.false s.found-is
+  | else-choose s ↦ turn_shut c.one.invariant c.as_slice-one.ensures _ c.one-test.true _ (c.choose.ensures.answer, c.choose.ensures.zone) s.if-choose.false s.found-is
 ]
 
 pub returns-after-one : goal.returns-after-one
 returns-after-one g c =
     let r : Ends _ c.one.found c.one.out = rw c.one.invariant.not_yet
-    (ends_none _ (sym (search_is _ _ _ c.weigh.result c.weigh.ensures c.order_by-order.ensures)
+    (ends_none _ (sym (search_is _ _ _ _ c.weigh.ensures c.order_by-order.ensures)
     ∙ level_end c.one.invariant c.as_slice-one.ensures c.one-test.false)) in
     record { answer = r.0; zone = r.1 }
 
 pub returns-then-choose-4 : goal.returns-then-choose-4
 returns-then-choose-4 g c =
-    let r = turn_ends c.four.invariant c.as_slice-four.ensures _ c.four-test.true (from_place c.four.invariant.ready.order 4) _ (c.choose-in-four.ensures.answer, c.choose-in-four.ensures.zone) refl c.if-choose-4.true in
+    let r = turn_ends c.four.invariant c.as_slice-four.ensures _ c.four-test.true _ (c.choose-in-four.ensures.answer, c.choose-in-four.ensures.zone) refl c.if-choose-4.true in
     record { answer = r.0; zone = r.1 }

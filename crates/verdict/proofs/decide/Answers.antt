@@ -7,13 +7,13 @@ use Rattle.verdict.proofs.decide.Goals as goal
 
 pub shared_ref_as_front-of : goal.shared_ref_as_front-of
 shared_ref_as_front-of c =
-    let size = sizes _ _ _ _ _ _ c.well_formed.0 c.well_formed.1.0 c.well_formed.1.1.0 in
+    let size = sizes c.well_formed in
     let few = (lists_columns (record { given = c.requires; both = refl }) size).stored in
     omega (arith, few, size.extract.outputs)
 
 pub of-rows-requires : goal.of-rows-requires
 of-rows-requires c =
-    width_most (record { given = c.requires; both = refl }) (sizes _ _ _ _ _ _ c.well_formed.0 c.well_formed.1.0 c.well_formed.1.1.0)
+    width_most (record { given = c.requires; both = refl }) (sizes c.well_formed)
 
 pub decide_sized-requires : goal.decide_sized-requires
 decide_sized-requires c = record {
@@ -25,5 +25,5 @@ decide_sized-requires c = record {
 pub decide_sized-requires-2 : goal.decide_sized-requires-2
 decide_sized-requires-2 c =
     let decides : Decides c.args.k c.args.extract c.args.query c.of-rows.result = record { given = c.requires; both = c.of-rows.ensures } in
-    let most = columns_most decides (sizes _ _ _ _ _ _ c.well_formed.0 c.well_formed.1.0 c.well_formed.1.1.0) in
+    let most = columns_most decides (sizes c.well_formed) in
     record { decides = decides; room = omega (arith, most); most = omega arith }

@@ -45,65 +45,65 @@ pub new-out-requires : goal.new-out-requires
 new-out-requires g c = (search rules, omega (arith, c.requires.room))
 
 pub rename-keeps_other-requires : goal.rename-keeps_other-requires
-rename-keeps_other-requires g c = keeps_renames c.requires.decides (sizes _ _ _ _ _ _ c.well_formed.0 c.well_formed.1.0 c.well_formed.1.1.0)
+rename-keeps_other-requires g c = keeps_renames c.requires.decides (sizes c.well_formed)
 
 pub shared_ref_as_front-set_bounds : goal.shared_ref_as_front-set_bounds
-shared_ref_as_front-set_bounds g c = omega (arith, width_most c.requires.decides (sizes _ _ _ _ _ _ c.well_formed.0 c.well_formed.1.0 c.well_formed.1.1.0))
+shared_ref_as_front-set_bounds g c = omega (arith, width_most c.requires.decides (sizes c.well_formed))
 
 pub set_bounds-requires : goal.set_bounds-requires
-set_bounds-requires g c = (search rules, one_asks c.requires.decides (sizes _ _ _ _ _ _ c.well_formed.0 c.well_formed.1.0 c.well_formed.1.1.0) _ c.requires.room)
+set_bounds-requires g c = (search rules, one_asks c.requires.decides (sizes c.well_formed) _ c.requires.room)
 
 pub find_one-kind-requires : goal.find_one-kind-requires
 find_one-kind-requires g c =
-    let size = sizes _ _ _ _ _ _ c.well_formed.0 c.well_formed.1.0 c.well_formed.1.1.0 in
+    let size = sizes c.well_formed in
     (search rules, (search rules, one_finds c.requires.decides size (one_box c.requires.decides size c.set_bounds.ensures.zone)))
 
 pub shared_ref_as_front-set_bounds-2 : goal.shared_ref_as_front-set_bounds-2
-shared_ref_as_front-set_bounds-2 g c = columns_most c.requires.decides (sizes _ _ _ _ _ _ c.well_formed.0 c.well_formed.1.0 c.well_formed.1.1.0)
+shared_ref_as_front-set_bounds-2 g c = columns_most c.requires.decides (sizes c.well_formed)
 
 pub set_bounds-requires-2 : goal.set_bounds-requires-2
-set_bounds-requires-2 g c = (search rules, two_asks c.requires.decides (sizes _ _ _ _ _ _ c.well_formed.0 c.well_formed.1.0 c.well_formed.1.1.0) _ c.requires.room)
+set_bounds-requires-2 g c = (search rules, two_asks c.requires.decides (sizes c.well_formed) _ c.requires.room)
 
 pub rename-wants_other-requires : goal.rename-wants_other-requires
-rename-wants_other-requires g c = wants_renames c.requires.decides (sizes _ _ _ _ _ _ c.well_formed.0 c.well_formed.1.0 c.well_formed.1.1.0)
+rename-wants_other-requires g c = wants_renames c.requires.decides (sizes c.well_formed)
 
 pub shared_ref_as_front-cs : goal.shared_ref_as_front-cs
-shared_ref_as_front-cs g c = omega (arith, query_outputs c.requires.decides (sizes _ _ _ _ _ _ c.well_formed.0 c.well_formed.1.0 c.well_formed.1.1.0))
+shared_ref_as_front-cs g c = omega (arith, query_outputs c.requires.decides (sizes c.well_formed))
 
 pub find_two-kind-requires : goal.find_two-kind-requires
 find_two-kind-requires g c =
-    let size = sizes _ _ _ _ _ _ c.well_formed.0 c.well_formed.1.0 c.well_formed.1.1.0 in
+    let size = sizes c.well_formed in
     let two = two_box c.requires.decides size c.set_bounds-2.ensures.zone in
     (search rules, (search rules, two_finds c.requires.decides size c.rename-keeps_other.ensures two c.rename-wants_other.ensures))
 
 pub pair_of-pair-requires : goal.pair_of-pair-requires
 pair_of-pair-requires g c =
-    let size = sizes _ _ _ _ _ _ c.well_formed.0 c.well_formed.1.0 c.well_formed.1.1.0 in
+    let size = sizes c.well_formed in
     (search rules, pairs_asked c.requires.decides size (told g ((goal.at.pair_of-pair-requires g c).Joined-eq) size))
 
 pub slice_bounds-marks-end : goal.slice_bounds-marks-end
-slice_bounds-marks-end g c = width_most c.requires.decides (sizes _ _ _ _ _ _ c.well_formed.0 c.well_formed.1.0 c.well_formed.1.1.0)
+slice_bounds-marks-end g c = width_most c.requires.decides (sizes c.well_formed)
 
 pub slice_bounds-mark_pairs-end : goal.slice_bounds-mark_pairs-end
 slice_bounds-mark_pairs-end g c =
-    sym (length-take-le c.args.k.width (replicate 16 false) (width_most c.requires.decides (sizes _ _ _ _ _ _ c.well_formed.0 c.well_formed.1.0 c.well_formed.1.1.0)))
+    sym (length-take-le c.args.k.width (replicate 16 false) (width_most c.requires.decides (sizes c.well_formed)))
 
 pub mark_pairs-requires : goal.mark_pairs-requires
 mark_pairs-requires g c =
     let u = c.requires.decides in
-    let size = sizes _ _ _ _ _ _ c.well_formed.0 c.well_formed.1.0 c.well_formed.1.1.0 in (
+    let size = sizes c.well_formed in (
       search rules,
       marks_two u size c.rename-keeps_other.ensures (two_box u size c.set_bounds-2.ensures.zone)
           (length-take-le c.args.k.width (replicate 16 false) (width_most u size)),
     )
 
 pub listing_of-requires : goal.listing_of-requires
-listing_of-requires g c = lists_columns c.requires.decides (sizes _ _ _ _ _ _ c.well_formed.0 c.well_formed.1.0 c.well_formed.1.1.0)
+listing_of-requires g c = lists_columns c.requires.decides (sizes c.well_formed)
 
 pub returns : goal.returns
 returns g c =
     let u = c.requires.decides in
-    let size = sizes _ _ _ _ _ _ c.well_formed.0 c.well_formed.1.0 c.well_formed.1.1.0 in
+    let size = sizes c.well_formed in
     let told = told g ((goal.at.returns g c).Joined-eq) size in
     let k = c.args.k in let extract = c.args.extract in let query = c.args.query in
     let none : List Bool = take k.width (replicate 16 false) in
