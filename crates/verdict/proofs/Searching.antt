@@ -50,9 +50,7 @@ module _ (z : Zone) {k : Condition} (fits : ConditionFits (columns_of z) k) (c :
         };
       }
 
-  pub outside_is : (a b : model.Condition) → outside z a b c.clauses (choices_in c) ≡ without z a b (condition_of k)
-  outside_is a b = rw (laid, size)
-
--- what is found, under another name
-pub ends_as : {o p : Option Zone} {r : Bool} (e : Zone) → o ≡ p → Ends o r e → Ends p r e
-ends_as e is ends = rw is at ends
+  -- what is found
+  pub searched : (a b : model.Condition) {r : Bool} {e : Zone} → Ends (outside z a b c.clauses (choices_in c)) r e
+      → Ends (without z a b (condition_of k)) r e
+  searched a b ends = rw (laid, size) at ends

@@ -6,10 +6,11 @@ use Rattle.base.proofs.Options.{none_of}
 use Rattle.job.specs.declared.Condition.{Condition}
 use Rattle.job.specs.Meaning.{condition_of}
 use Rattle.verdict.specs.Found.{without}
-use Rattle.verdict.proofs.Searching.{always_fits, outside_asks, outside_is, ends_as}
-use Rattle.verdict.proofs.Finding.{passes, shows_1, shows_2, shows_neither}
+use Rattle.verdict.proofs.Searching.{always_fits, outside_asks, searched}
+use Rattle.verdict.proofs.Finding.{Passed, passes, shows_1, shows_2, shows_neither}
 use Rattle.verdict.proofs.find_one.Goals as goal
-use Rattle.verdict.proofs.find_one.Goals.{else-differ-via-then-differ+else-met, else-differ-via-else-differ}
+use Rattle.verdict.proofs.find_one.Given.{Over}
+use Rattle.verdict.proofs.find_one.Goals.{Joined-else-differ, else-differ-via-then-differ+else-met, else-differ-via-else-differ}
 
 pub returns-then-met : goal.returns-then-met
 returns-then-met g c =
@@ -31,30 +32,23 @@ outside-requires g c =
       ),
     )
 
+-- the first search found nothing, or wasn't made
+passed : (g : Over) (c : Joined-else-differ g) → Passed c.args.z.now c.args.differ (condition_of c.args.wants.now)
+passed g c = passes _ _ _ (λ made. elim c.else-differ.branch [
+  | else-differ-via-then-differ+else-met s ↦ none_of _ s.met.ensures.answer s.if-met.false
+  | else-differ-via-else-differ s ↦ absurd (false≢true (sym s.if-differ.false ∙ made))
+])
+
 pub returns-then-outside : goal.returns-then-outside
 returns-then-outside g c =
-    let z = c.args.z.now in
-    let keeps = condition_of c.args.keeps.now in let wants = condition_of c.args.wants.now in
     let put = c.put_choices.ensures in
-    let r = shows_2 z c.args.differ keeps wants _
-    (passes z c.args.differ wants (λ yes'. elim c.else-differ.branch [
-      | else-differ-via-then-differ+else-met s ↦ none_of _ s.met.ensures.answer s.if-met.false
-      | else-differ-via-else-differ s ↦ absurd (false≢true (sym s.if-differ.false ∙ yes'))
-    ])) (ends_as _ (outside_is z c.requires.searches.first c.put_choices.new.choices put.ways put.size (condition_of c.always-always.result) wants
-    ∙ ap (λ (k : Condition). without z (condition_of k) wants keeps) c.always-always.ensures) (c.outside.ensures.answer, c.outside.ensures.zone))
-    c.if-outside.true in
+    let ends = searched _ c.requires.searches.first _ put.ways put.size (condition_of c.always-always.result) _ (c.outside.ensures.answer, c.outside.ensures.zone) in
+    let r = shows_2 _ c.args.differ _ _ _ (passed g ((goal.at.returns-then-outside g c).Joined-else-differ)) (rw c.always-always.ensures at ends) c.if-outside.true in
     record { kind = r.0; zone = r.1 }
 
 pub returns : goal.returns
 returns g c =
-    let z = c.args.z.now in
-    let keeps = condition_of c.args.keeps.now in let wants = condition_of c.args.wants.now in
     let put = c.put_choices.ensures in
-    let r = shows_neither z c.args.differ keeps wants _
-    (passes z c.args.differ wants (λ yes'. elim c.else-differ.branch [
-      | else-differ-via-then-differ+else-met s ↦ none_of _ s.met.ensures.answer s.if-met.false
-      | else-differ-via-else-differ s ↦ absurd (false≢true (sym s.if-differ.false ∙ yes'))
-    ])) (ends_as _ (outside_is z c.requires.searches.first c.put_choices.new.choices put.ways put.size (condition_of c.always-always.result) wants
-    ∙ ap (λ (k : Condition). without z (condition_of k) wants keeps) c.always-always.ensures) (c.outside.ensures.answer, c.outside.ensures.zone))
-    c.if-outside.false in
+    let ends = searched _ c.requires.searches.first _ put.ways put.size (condition_of c.always-always.result) _ (c.outside.ensures.answer, c.outside.ensures.zone) in
+    let r = shows_neither _ c.args.differ _ _ _ (passed g ((goal.at.returns g c).Joined-else-differ)) (rw c.always-always.ensures at ends) c.if-outside.false in
     record { kind = r.0; zone = r.1 }

@@ -4,7 +4,7 @@ use Rattle.base.specs.Lists.{at}
 use Rattle.base.proofs.Options.{none_of}
 use Rattle.job.specs.Meaning.{condition_of}
 use Rattle.twins.specs.Pairs.{some_apart}
-use Rattle.verdict.proofs.Searching.{outside_asks, outside_is, ends_as}
+use Rattle.verdict.proofs.Searching.{outside_asks, searched}
 use Rattle.verdict.proofs.Finding.{shows_3, shows_4, shows_none}
 use Rattle.verdict.proofs.find_two.Goals as goal
 
@@ -19,8 +19,7 @@ returns-then-outside g c =
     let keeps = condition_of c.args.keeps.now in let wants = condition_of c.args.wants.now in let others = condition_of c.args.others.now in
     let put = c.put_choices.ensures in
     let r = shows_3 z keeps wants others (some_apart (at c.args.rows.now.twin) c.args.cs.now) _
-    (ends_as _ (outside_is z c.requires.third c.put_choices.new.choices put.ways put.size keeps wants)
-    (c.outside.ensures.answer, c.outside.ensures.zone)) c.if-outside.true in
+    (searched z c.requires.third c.put_choices.new.choices put.ways put.size keeps wants (c.outside.ensures.answer, c.outside.ensures.zone)) c.if-outside.true in
     record { kind = r.0; zone = r.1 }
 
 pub returns-then-differ : goal.returns-then-differ
@@ -29,8 +28,7 @@ returns-then-differ g c =
     let keeps = condition_of c.args.keeps.now in let wants = condition_of c.args.wants.now in let others = condition_of c.args.others.now in
     let put = c.put_choices.ensures in
     let r = shows_4 z keeps wants others (some_apart (at c.args.rows.now.twin) c.args.cs.now) _
-    (none_of _ (ends_as _ (outside_is z c.requires.third c.put_choices.new.choices put.ways put.size keeps wants)
-    (c.outside.ensures.answer, c.outside.ensures.zone)).0 c.if-outside.false) (c.differ.ensures.answer, c.differ.ensures.zone)
+    (none_of _ (searched z c.requires.third c.put_choices.new.choices put.ways put.size keeps wants (c.outside.ensures.answer, c.outside.ensures.zone)).0 c.if-outside.false) (c.differ.ensures.answer, c.differ.ensures.zone)
     c.if-differ.true in
     record { kind = r.0; zone = r.1 }
 
@@ -40,7 +38,6 @@ returns g c =
     let keeps = condition_of c.args.keeps.now in let wants = condition_of c.args.wants.now in let others = condition_of c.args.others.now in
     let put = c.put_choices.ensures in
     let r = shows_none z keeps wants others (some_apart (at c.args.rows.now.twin) c.args.cs.now) _
-    (none_of _ (ends_as _ (outside_is z c.requires.third c.put_choices.new.choices put.ways put.size keeps wants)
-    (c.outside.ensures.answer, c.outside.ensures.zone)).0 c.if-outside.false) (c.differ.ensures.answer, c.differ.ensures.zone)
+    (none_of _ (searched z c.requires.third c.put_choices.new.choices put.ways put.size keeps wants (c.outside.ensures.answer, c.outside.ensures.zone)).0 c.if-outside.false) (c.differ.ensures.answer, c.differ.ensures.zone)
     c.if-differ.false in
     record { kind = r.0; zone = r.1 }
