@@ -1,16 +1,18 @@
 -- `verdict::find_one` meets its contract. Assumes nothing.
 use borrow.Author.Rules.{rules}
-use mathlib.Core.Path.{sym, ap, ◌∙◌}
+use mathlib.Core.Path.{◌≡◌, refl, sym, ap, ◌∙◌}
 use mathlib.Core.Bool.{false≢true}
 use Rattle.base.proofs.Options.{none_of}
 use Rattle.job.specs.declared.Condition.{Condition}
 use Rattle.job.specs.Meaning.{condition_of}
+use Rattle.conditions.specs.Meeting.{always}
+use Rattle.conditions.proofs.Meeting.{Ends}
 use Rattle.verdict.specs.Found.{without}
 use Rattle.verdict.proofs.Searching.{always_fits, outside_asks, searched}
 use Rattle.verdict.proofs.Finding.{Passed, passes, shows_1, shows_2, shows_neither}
 use Rattle.verdict.proofs.find_one.Goals as goal
 use Rattle.verdict.proofs.find_one.Given.{Over}
-use Rattle.verdict.proofs.find_one.Goals.{Joined-else-differ, else-differ-via-then-differ+else-met, else-differ-via-else-differ}
+use Rattle.verdict.proofs.find_one.Goals.{Joined-else-differ, After-outside, else-differ-via-then-differ+else-met, else-differ-via-else-differ}
 
 pub returns-then-met : goal.returns-then-met
 returns-then-met g c =
@@ -39,16 +41,22 @@ passed g c = passes _ _ _ (λ made. elim c.else-differ.branch [
   | else-differ-via-else-differ s ↦ absurd (false≢true (sym s.if-differ.false ∙ made))
 ])
 
+-- what the second found
+found : (g : Over) (c : After-outside g)
+    → Ends (without c.args.z.now always (condition_of c.args.wants.now) (condition_of c.args.keeps.now)) c.outside.result c.outside.new.out
+found g c =
+    let put = c.put_choices.ensures in
+    let first : condition_of c.always-always.result ≡ always = rw c.always-always.ensures refl in
+    rw first at (searched _ c.requires.searches.first _ put.ways put.size _ _ (c.outside.ensures.answer, c.outside.ensures.zone))
+
 pub returns-then-outside : goal.returns-then-outside
 returns-then-outside g c =
-    let put = c.put_choices.ensures in
-    let ends = searched _ c.requires.searches.first _ put.ways put.size (condition_of c.always-always.result) _ (c.outside.ensures.answer, c.outside.ensures.zone) in
-    let r = shows_2 _ c.args.differ _ _ _ (passed g ((goal.at.returns-then-outside g c).Joined-else-differ)) (rw c.always-always.ensures at ends) c.if-outside.true in
+    let at_end = goal.at.returns-then-outside g c in
+    let r = shows_2 _ c.args.differ _ _ _ (passed g at_end.Joined-else-differ) (found g at_end.After-outside) c.if-outside.true in
     record { kind = r.0; zone = r.1 }
 
 pub returns : goal.returns
 returns g c =
-    let put = c.put_choices.ensures in
-    let ends = searched _ c.requires.searches.first _ put.ways put.size (condition_of c.always-always.result) _ (c.outside.ensures.answer, c.outside.ensures.zone) in
-    let r = shows_neither _ c.args.differ _ _ _ (passed g ((goal.at.returns g c).Joined-else-differ)) (rw c.always-always.ensures at ends) c.if-outside.false in
+    let at_end = goal.at.returns g c in
+    let r = shows_neither _ c.args.differ _ _ _ (passed g at_end.Joined-else-differ) (found g at_end.After-outside) c.if-outside.false in
     record { kind = r.0; zone = r.1 }
