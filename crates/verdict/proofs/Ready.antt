@@ -20,12 +20,12 @@ use Rattle.job.specs.declared.Condition.{Condition}
 use Rattle.job.specs.declared.Expression.{Expression}
 use Rattle.job.specs.declared.Job.{Job}
 use Rattle.job.specs.Record.{no_column}
-use Rattle.job.specs.Meaning.{condition_of, expression_of, job_of, problem}
+use Rattle.job.specs.Meaning.{condition_of, expression_of, expression_record, job_of, problem}
 use mir.Val.{Val}
 use denote.Laws.{Is}
 use Rattle.job.specs.contracts.Columns as declared_columns
 use Rattle.job.specs.contracts.Expression as expression
-use Rattle.job.proofs.Records.{Sized, sized_columns, sized_expression}
+use Rattle.job.proofs.Records.{Sized, SizedExpression, sized_columns, sized_expression}
 use Rattle.job.proofs.Declared.{width_is, bounds_are, extract_is, query_is}
 use Rattle.job.proofs.Counts.{used_fit, outputs_fit, clauses_fit, comparisons_fit, condition_is, tables_below}
 use Rattle.zone.specs.Zone.{Zone, columns_of}
@@ -82,6 +82,15 @@ sizes {k} {extract} {query} {us} {vs} {ws} are = record {
   extract = sized_expression extract vs are.1.0;
   query = sized_expression query ws are.1.1.0;
 }
+
+-- what counts of an expression's condition has room in its record
+small_in : (e : model.Expression) (x : Expression) → x ≡ expression_record e → SizedExpression x → Small x.condition
+small_in e x laid size =
+    let is = condition_is e x laid size in
+    record {
+      clauses = clauses_fit e.condition x.condition is size.condition;
+      comparisons = comparisons_fit e.condition x.condition is size.condition;
+    }
 
 -- ---- columns, an extract and a query that reading gives, with two rows as one
 module _ {k : Columns} {extract query : Expression} {rows : TwinRows} (u : Decides k extract query rows) (size : Sized (problem k extract query)) where
@@ -158,20 +167,10 @@ module _ {k : Columns} {extract query : Expression} {rows : TwinRows} (u : Decid
   wants_is = refl
 
   extract_small : Small extract.condition
-  extract_small =
-      let is = condition_is j.extract extract (extract_is r g.laid) size.extract in
-      record {
-        clauses = clauses_fit j.extract.condition extract.condition is size.extract.condition;
-        comparisons = comparisons_fit j.extract.condition extract.condition is size.extract.condition;
-      }
+  extract_small = small_in j.extract extract (extract_is r g.laid) size.extract
 
   query_small : Small query.condition
-  query_small =
-      let is = condition_is j.query query (query_is r g.laid) size.query in
-      record {
-        clauses = clauses_fit j.query.condition query.condition is size.query.condition;
-        comparisons = comparisons_fit j.query.condition query.condition is size.query.condition;
-      }
+  query_small = small_in j.query query (query_is r g.laid) size.query
 
   -- a condition that is one of the job's fits the columns that the job's does
   fits : {c : Condition} {n : ℕ} (m : ℕ) → n ≡ m → (k : model.Condition) → condition_of c ≡ k → T (condition_fits m k) → Small c → ConditionFits n c
