@@ -130,8 +130,8 @@ fn open_after<const N: usize>(z: &Zone<N>, c: Constraint, k: &Choices, rest: &[u
     true
 }
 
-// Lays the rows of a zone that obey the constraint too into another, unless there are none, or some clause that is still to be
-// broken can't be broken then. Nothing is copied before that is known.
+// Lays the rows of a zone that obey the constraint too into another, which is lent, unless there are none, or some clause that is still to
+// be broken can't be broken then. Nothing is copied before that is known.
 pub fn choose<const N: usize>(
     z: &Zone<N>,
     to: &mut Zone<N>,

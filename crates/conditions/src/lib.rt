@@ -1,5 +1,5 @@
-// Conditions and the rows of a zone: those that meet a clause, or a clause of each of two conditions. They are laid into a lent zone: one is
-// too large to be copied on the way.
+// Conditions and the rows of a zone: those that meet a clause, or a clause of each of two conditions. They are laid into a lent zone, since
+// one is too large to be handed back, and the answer is whether there are any.
 #![tactic(auto)]
 
 ghost use Rattle.std.specs.Prelude.{◌≡◌, ◌++◌};

@@ -17,7 +17,8 @@ use model::{Held, Kind};
 use twins::TwinRows;
 use zone::Zone;
 
-// At most one row in each table: in which tables there is one, and the values of its columns.
+// At most one row in each table: in which tables there is one, and the values of its columns. The values stand by column, as in a row; an
+// Option for each table would take them apart, and tables have no size of their own.
 #[derive(Clone, Copy, Default)]
 pub struct Database {
     pub present: [bool; Job::TABLES],

@@ -7,6 +7,7 @@ use Rattle.job.specs.declared.Comparison.{Comparison}
 use Rattle.job.specs.declared.Clause.{Clause}
 use Rattle.job.specs.declared.Condition.{Condition}
 use Rattle.job.specs.declared.Expression.{Expression}
+use Rattle.job.specs.declared.Columns.{Columns}
 use Rattle.job.specs.declared.Job.{Job}
 
 abbrev pub no_column : Column
@@ -24,8 +25,11 @@ no_condition = record { size = 0; clauses = replicate 4 no_clause }
 abbrev pub no_expression : Expression
 no_expression = record { tables = 0; used = replicate 4 0; width = 0; outputs = replicate 16 0; condition = no_condition }
 
+abbrev pub no_columns : Columns
+no_columns = record { tables = 0; width = 0; columns = replicate 16 no_column }
+
 abbrev pub no_job : Job
-no_job = record { declared = record { tables = 0; width = 0; columns = replicate 16 no_column }; extract = no_expression; query = no_expression }
+no_job = record { declared = no_columns; extract = no_expression; query = no_expression }
 
 -- ---- Entries past a count are zero
 

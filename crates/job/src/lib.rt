@@ -15,7 +15,8 @@ pub struct Column {
 }
 
 // A comparison by an op. Right is 0 where the left column is compared with the number, else one more than the column that it is compared
-// with. The op is a number and no `Op`, since a record that is lent may have any: what reading never gives is refused.
+// with. The op is a number and no `Op`, and the right side is no Option, since a record that is lent may have any bytes: what reading never
+// gives is refused.
 #[derive(Clone, Copy, PartialEq, Eq, Default)]
 pub struct Comparison {
     pub op: u8,

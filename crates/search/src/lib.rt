@@ -1,4 +1,5 @@
-// The search for a row that meets two conditions and breaks every clause of a third.
+// The search for a row that meets two conditions and breaks every clause of a third. What is found is laid into a lent zone, and the answer
+// is whether anything is, as in crate conditions.
 #![tactic(auto)]
 
 ghost use Rattle.std.specs.Prelude.{◌≡◌, ◌<◌, ◌≤◌, length};

@@ -1,4 +1,5 @@
-// Lists of comparisons as zones: node 0 stands for the constant zero, node c + 1 for column c, and values are biased.
+// Lists of comparisons as zones: node 0 stands for the constant zero, node c + 1 for column c, and values are biased. What imposes on a
+// lent zone answers whether rows are left, as the methods of zones do.
 #![tactic(auto)]
 
 ghost use Rattle.std.specs.Prelude.{◌≡◌, ◌*◌, ◌<◌, T, length, map};

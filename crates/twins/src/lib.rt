@@ -1,5 +1,5 @@
 // Two rows that agree in the stored columns, as one row: its columns and bounds, conditions said of either row, and searches over such
-// rows.
+// rows, which leave what they find in a lent zone, as in crate conditions.
 #![tactic(auto)]
 
 ghost use Rattle.std.specs.Prelude.{◌≡◌, false, ◌||◌, [], map, suc, ◌+◌, ◌<◌, ◌≤◌, length, get_or, take, pos, eqb};
@@ -177,7 +177,8 @@ impl TwinRows {
         out: &mut Zone<N>,
     ) -> bool
         requires { Differs z.now k.now l.now cs.now self.now.twin }
-        ensures answer { result ≡ is_some (pairs_of z.now (condition_of k.now) (condition_of l.now) (some_apart (at self.now.twin) cs.now)) }
+        ensures answer { result ≡ is_some
+            (pairs_of z.now (condition_of k.now) (condition_of l.now) (some_apart (at self.now.twin) cs.now)) }
         ensures zone { Lies (pairs_of z.now (condition_of k.now) (condition_of l.now) (some_apart (at self.now.twin) cs.now)) out.new }
     {
         // a column doesn't differ from itself, since a zone is closed, as `nodes` tells
@@ -224,7 +225,8 @@ impl TwinRows {
         marks: &mut [bool],
     )
         requires { Marks z.now k.now l.now (length marks.old) self.now.twin }
-        ensures { marks.new ≡ marked (length marks.old) (λ c. is_some (pairs_of z.now (condition_of k.now) (condition_of l.now) (if_differ c (at self.now.twin c)))) marks.old }
+        ensures { marks.new ≡ marked (length marks.old)
+            (λ c. is_some (pairs_of z.now (condition_of k.now) (condition_of l.now) (if_differ c (at self.now.twin c)))) marks.old }
     {
         // a column doesn't differ from itself, since a zone is closed, as `nodes` tells
         let _ = z.nodes();

@@ -24,7 +24,8 @@ const SMALL: usize = 13 * zone::WIDTH;
 
 // ---- The kind
 
-// Kind 1 or 2, and the rows of a zone that show it, or 0; `differ` says whether the used tables differ.
+// Kind 1 or 2, and the rows of a zone that show it, or 0; `differ` says whether the used tables differ. An Option of the kind would say
+// twice that none is shown, since it is 0 then.
 fn find_one<const N: usize>(
     z: &Zone<N>,
     differ: bool,
@@ -63,8 +64,10 @@ fn find_two<const N: usize>(
     out: &mut Zone<N>,
 ) -> Kind
     requires { FindsTwo z.now rows.now keeps.now wants.now others.now cs.now }
-    ensures kind { number_of_kind result ≡ two_kind z.now (condition_of keeps.now) (condition_of wants.now) (condition_of others.now) (some_apart (at rows.now.twin) cs.now) }
-    ensures zone { Lies (two_found z.now (condition_of keeps.now) (condition_of wants.now) (condition_of others.now) (some_apart (at rows.now.twin) cs.now)) out.new }
+    ensures kind { number_of_kind result ≡ two_kind z.now (condition_of keeps.now) (condition_of wants.now) (condition_of others.now)
+        (some_apart (at rows.now.twin) cs.now) }
+    ensures zone { Lies (two_found z.now (condition_of keeps.now) (condition_of wants.now) (condition_of others.now)
+        (some_apart (at rows.now.twin) cs.now)) out.new }
 {
     breaking::put_choices(others, choices);
     if search::outside(z, keeps, wants, &*choices, on_way, out) {
