@@ -21,7 +21,7 @@ use words::Op;
 
 // What a command adds to the record. The commands that begin an expression or end the job add nothing.
 #[derive(Clone, Copy)]
-enum Addition {
+pub enum Addition {
     Table,
     Column(Column),
     Part(Part),
@@ -30,7 +30,7 @@ enum Addition {
 
 // What a command adds to an expression.
 #[derive(Clone, Copy)]
-enum Part {
+pub enum Part {
     Used(u8),
     Output(u8),
     Clause,
@@ -405,8 +405,8 @@ impl Progress {
         Ok(Addition::Part(Part::Compared(k)))
     }
 
-    // What a command adds.
-    fn judge(&self, s: &[u8], c: Command) -> Result<Addition, Fault>
+    // What a command adds that has passed the checks 2 to 6.
+    pub fn enter(&self, s: &[u8], c: Command) -> Result<Addition, Fault>
         requires { (follows self.now.state c ≡ true) × (self.now.at + 1 + operands c ≤ length s.now) }
         ensures { result ≡ judged_of self.now.state (entry_at c s.now self.now.at) }
     {
@@ -424,11 +424,11 @@ impl Progress {
 
     // Takes a command that has passed the checks 2 to 6, and goes on to the next: whether the job ends with it, or its fault. The record is
     // written in place.
-    pub fn enter(&mut self, s: &[u8], c: Command) -> Result<bool, Fault>
+    pub fn go_on(&mut self, s: &[u8], c: Command) -> Result<bool, Fault>
         requires { Ready s.now self.old c }
         ensures { (refused_at self.old.at result, self.new) ≡ stepped_of self.old (taken_at s.now self.old c) }
     {
-        let x = self.judge(s, c)?;
+        let x = self.enter(s, c)?;
         add(&mut self.job, self.in_query, x);
         self.last = s[self.at];
         self.at += 1 + operands(c);

@@ -40,7 +40,7 @@ fn take(s: &[u8], p: &mut Progress) -> Result<bool, Fault>
     if !commands::has_bytes(s, at, commands::operands(c)) {
         return Err(Fault::NoOperands);
     }
-    p.enter(s, c)
+    p.go_on(s, c)
 }
 
 // One command, through the checks 2 to 10: whether the job ends with it.

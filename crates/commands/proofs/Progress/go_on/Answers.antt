@@ -1,4 +1,4 @@
--- `Progress::enter` meets its contract. Assumes nothing.
+-- `Progress::go_on` meets its contract. Assumes nothing.
 use mathlib.Core.Path.{◌≡◌, sym, ◌∙◌}
 use mathlib.Core.Bool.{◌||◌}
 use lib.ListN.{get_or}
@@ -6,18 +6,18 @@ use lib.Dec.{eqb}
 use Rattle.std.proofs.lemmas.Result.{err_from_is_err_and}
 use Rattle.commands.proofs.Entering.{refused, room, still_held, entered, same_byte, other_byte}
 use Rattle.layout.proofs.Taken.{spelled_query, spelled_end}
-use Rattle.commands.proofs.Progress.enter.Goals as goal
-use Rattle.commands.proofs.Progress.enter.Goals.{Joined-matches-2, then-self, else-self+in-QueryBegins, else-self+in_default, in-End, in_default-matches}
+use Rattle.commands.proofs.Progress.go_on.Goals as goal
+use Rattle.commands.proofs.Progress.go_on.Goals.{Joined-matches-2, then-self, else-self+in-QueryBegins, else-self+in_default, in-End, in_default-matches}
 
 pub returns-in_err-x : goal.returns-in_err-x
 returns-in_err-x c =
     let out = err_from_is_err_and c.from_residual.result c.from_residual.ensures.1 in
-    rw (out.1, out.2) (refused _ _ _ c.requires _ (sym c.in_err-x.was ∙ c.judge.ensures))
+    rw (out.1, out.2) (refused _ _ _ c.requires _ (sym c.in_err-x.was ∙ c.enter.ensures))
 
 pub add-requires : goal.add-requires
 add-requires c =
     room _ _ _ (rw (← c.self.view_is) at c.requires) _ c.self.invariant _
-    (rw (← c.self.view_is) at (sym c.in_ok-x.was ∙ c.judge.ensures))
+    (rw (← c.self.view_is) at (sym c.in_ok-x.was ∙ c.enter.ensures))
 
 -- the query has begun, or begins
 begun : (c : Joined-matches-2) → c.if-self.self ≡ (c.self.inside.in_query || eqb (get_or c.args.s.now c.self.inside.at 0) 0x21)
@@ -34,7 +34,7 @@ begun c =
 pub invariant_of-self : goal.invariant_of-self
 invariant_of-self c =
     still_held _ _ _ (rw (← c.self.view_is) at c.requires) _ c.self.invariant _
-    (rw (← c.self.view_is) at (sym c.in_ok-x.was ∙ c.judge.ensures)) _ c.add.ensures _ (begun c)
+    (rw (← c.self.view_is) at (sym c.in_ok-x.was ∙ c.enter.ensures)) _ c.add.ensures _ (begun c)
 
 -- the job ends, or goes on
 ended : (c : Joined-matches-2) → c.match-matches-2.matches ≡ eqb (get_or c.args.s.now c.self.inside.at 0) 0xFF
@@ -49,4 +49,4 @@ pub returns : goal.returns
 returns c =
     rw (← c.self.view_is)
     (entered _ _ _ (rw (← c.self.view_is) at c.requires) _ c.self.invariant _
-    (rw (← c.self.view_is) at (sym c.in_ok-x.was ∙ c.judge.ensures)) _ c.add.ensures _ (begun c) _ _ c.operands.ensures (ended c))
+    (rw (← c.self.view_is) at (sym c.in_ok-x.was ∙ c.enter.ensures)) _ c.add.ensures _ (begun c) _ _ c.operands.ensures (ended c))
