@@ -1,12 +1,11 @@
 -- How many ways there are: two for each comparison at most, so that the ways of each clause have room. Assumes nothing.
 use mathlib.Core.Path.{◌≡◌, ◌∙◌}
-use mathlib.Core.Bool.{Bool, true, false, cond}
 use mathlib.Core.List.Memᴰ
-use mathlib.Core.List.{List, [], ◌∷◌, ◌++◌, map}
-use Prim.Native.Nat.{ℕ, zero, suc, ◌+◌, ◌*◌, ◌<◌, ◌≤◌}
+use mathlib.Core.List.{List, [], ◌∷◌, map}
+use Prim.Native.Nat.{ℕ, zero, suc, ◌<◌, ◌≤◌}
 use native.Mathlib.Omega.{arith}
-use lib.ListN.{length, get_or, take, length-map, length-append, length-take}
-use Rattle.base.specs.Lists.{◌∈◌, any_of}
+use lib.ListN.{length, get_or, take, length-map, length-take}
+use Rattle.base.specs.Lists.{◌∈◌}
 use Rattle.base.proofs.Places.{map_at}
 use Rattle.base.proofs.Arrays.{padded_length, get_or_padded, padded_past}
 use Rattle.model.specs.Tables as model
@@ -14,10 +13,8 @@ use Rattle.job.specs.declared.Clause.{Clause}
 use Rattle.job.specs.declared.Condition.{Condition}
 use Rattle.job.specs.Meaning.{comparison_of, clause_of, condition_of}
 use Rattle.zone.specs.declared.Constraint.{Constraint}
-use Rattle.std.specs.Prelude.{Option, Some, None}
-use Rattle.solver.specs.Comparisons.{negations_of}
 use Rattle.conditions.specs.Uses.{Small}
-use Rattle.breaking.specs.Breaking.{same_constraint, with_way, with_second, with_ways, with_clause, ways_of, free, choices_of}
+use Rattle.breaking.specs.Breaking.{ways_of, free, choices_of}
 
 -- ---- The choices of a condition
 

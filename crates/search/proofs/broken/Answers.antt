@@ -59,42 +59,62 @@ pub choose-requires : goal.choose-requires
 choose-requires g c = (search rules, level_asks c.one.invariant c.as_slice-one.ensures _ c.one-test.true)
 
 pub two-init : goal.two-init
-two-init g c = turn_down c.one.invariant c.as_slice-one.ensures _ c.one-test.true _ (c.choose.ensures.answer, c.choose.ensures.zone) (omega arith) c.if-choose.true
+two-init g c =
+    turn_down c.one.invariant c.as_slice-one.ensures _ c.one-test.true _ (c.choose.ensures.answer, c.choose.ensures.zone)
+    (omega arith) c.if-choose.true
 
 pub choose-requires-in-two : goal.choose-requires-in-two
 choose-requires-in-two g c = (search rules, level_asks c.two.invariant c.as_slice-two.ensures _ c.two-test.true)
 
 pub three-init : goal.three-init
-three-init g c = turn_down c.two.invariant c.as_slice-two.ensures _ c.two-test.true _ (c.choose-in-two.ensures.answer, c.choose-in-two.ensures.zone) (omega arith) c.if-choose-2.true
+three-init g c =
+    turn_down c.two.invariant c.as_slice-two.ensures _ c.two-test.true _ (c.choose-in-two.ensures.answer, c.choose-in-two.ensures.zone)
+    (omega arith) c.if-choose-2.true
 
 pub choose-requires-in-three : goal.choose-requires-in-three
 choose-requires-in-three g c = (search rules, level_asks c.three.invariant c.as_slice-three.ensures _ c.three-test.true)
 
 pub four-init : goal.four-init
-four-init g c = turn_down c.three.invariant c.as_slice-three.ensures _ c.three-test.true _ (c.choose-in-three.ensures.answer, c.choose-in-three.ensures.zone) (omega arith) c.if-choose-3.true
+four-init g c =
+    turn_down c.three.invariant c.as_slice-three.ensures _ c.three-test.true _ (c.choose-in-three.ensures.answer, c.choose-in-three.ensures.zone)
+    (omega arith) c.if-choose-3.true
 
 pub choose-requires-in-four : goal.choose-requires-in-four
 choose-requires-in-four g c = (search rules, level_asks c.four.invariant c.as_slice-four.ensures _ c.four-test.true)
 
 pub four-preserved : goal.four-preserved
-four-preserved g c = turn_shut c.four.invariant c.as_slice-four.ensures _ c.four-test.true _ (c.choose-in-four.ensures.answer, c.choose-in-four.ensures.zone) c.if-choose-4.false refl
+four-preserved g c =
+    turn_shut c.four.invariant c.as_slice-four.ensures _ c.four-test.true _ (c.choose-in-four.ensures.answer, c.choose-in-four.ensures.zone)
+    c.if-choose-4.false refl
 
 pub three-preserved : goal.three-preserved
 three-preserved g c = elim c.if-choose-3.branch [
-  | then-choose-3+else-four-test s ↦ turn_barren c.three.invariant c.as_slice-three.ensures _ c.three-test.true _ (c.choose-in-three.ensures.answer, c.choose-in-three.ensures.zone) s.if-choose-3.true s.four.invariant c.as_slice-four.ensures s.four-test.false s.found-is
-  | else-choose-3 s ↦ turn_shut c.three.invariant c.as_slice-three.ensures _ c.three-test.true _ (c.choose-in-three.ensures.answer, c.choose-in-three.ensures.zone) s.if-choose-3.false s.found-is
+  | then-choose-3+else-four-test s ↦
+      turn_barren c.three.invariant c.as_slice-three.ensures _ c.three-test.true _ (c.choose-in-three.ensures.answer, c.choose-in-three.ensures.zone)
+      s.if-choose-3.true s.four.invariant c.as_slice-four.ensures s.four-test.false s.found-is
+  | else-choose-3 s ↦
+      turn_shut c.three.invariant c.as_slice-three.ensures _ c.three-test.true _ (c.choose-in-three.ensures.answer, c.choose-in-three.ensures.zone)
+      s.if-choose-3.false s.found-is
 ]
 
 pub two-preserved : goal.two-preserved
 two-preserved g c = elim c.if-choose-2.branch [
-  | then-choose-2+else-three-test s ↦ turn_barren c.two.invariant c.as_slice-two.ensures _ c.two-test.true _ (c.choose-in-two.ensures.answer, c.choose-in-two.ensures.zone) s.if-choose-2.true s.three.invariant c.as_slice-three.ensures s.three-test.false s.found-is
-  | else-choose-2 s ↦ turn_shut c.two.invariant c.as_slice-two.ensures _ c.two-test.true _ (c.choose-in-two.ensures.answer, c.choose-in-two.ensures.zone) s.if-choose-2.false s.found-is
+  | then-choose-2+else-three-test s ↦
+      turn_barren c.two.invariant c.as_slice-two.ensures _ c.two-test.true _ (c.choose-in-two.ensures.answer, c.choose-in-two.ensures.zone)
+      s.if-choose-2.true s.three.invariant c.as_slice-three.ensures s.three-test.false s.found-is
+  | else-choose-2 s ↦
+      turn_shut c.two.invariant c.as_slice-two.ensures _ c.two-test.true _ (c.choose-in-two.ensures.answer, c.choose-in-two.ensures.zone)
+      s.if-choose-2.false s.found-is
 ]
 
 pub one-preserved : goal.one-preserved
 one-preserved g c = elim c.if-choose.branch [
-  | then-choose+else-two-test s ↦ turn_barren c.one.invariant c.as_slice-one.ensures _ c.one-test.true _ (c.choose.ensures.answer, c.choose.ensures.zone) s.if-choose.true s.two.invariant c.as_slice-two.ensures s.two-test.false s.found-is
-  | else-choose s ↦ turn_shut c.one.invariant c.as_slice-one.ensures _ c.one-test.true _ (c.choose.ensures.answer, c.choose.ensures.zone) s.if-choose.false s.found-is
+  | then-choose+else-two-test s ↦
+      turn_barren c.one.invariant c.as_slice-one.ensures _ c.one-test.true _ (c.choose.ensures.answer, c.choose.ensures.zone)
+      s.if-choose.true s.two.invariant c.as_slice-two.ensures s.two-test.false s.found-is
+  | else-choose s ↦
+      turn_shut c.one.invariant c.as_slice-one.ensures _ c.one-test.true _ (c.choose.ensures.answer, c.choose.ensures.zone)
+      s.if-choose.false s.found-is
 ]
 
 pub returns-after-one : goal.returns-after-one
@@ -106,5 +126,6 @@ returns-after-one g c =
 
 pub returns-then-choose-4 : goal.returns-then-choose-4
 returns-then-choose-4 g c =
-    let r = turn_ends c.four.invariant c.as_slice-four.ensures _ c.four-test.true _ (c.choose-in-four.ensures.answer, c.choose-in-four.ensures.zone) refl c.if-choose-4.true in
+    let r = turn_ends c.four.invariant c.as_slice-four.ensures _ c.four-test.true _ (c.choose-in-four.ensures.answer, c.choose-in-four.ensures.zone)
+    refl c.if-choose-4.true in
     record { answer = r.0; zone = r.1 }

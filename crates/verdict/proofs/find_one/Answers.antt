@@ -1,9 +1,8 @@
 -- `verdict::find_one` meets its contract. Assumes nothing.
 use borrow.Author.Rules.{rules}
-use mathlib.Core.Path.{◌≡◌, refl, sym, ap, ◌∙◌}
+use mathlib.Core.Path.{◌≡◌, refl, sym, ◌∙◌}
 use mathlib.Core.Bool.{false≢true}
 use Rattle.base.proofs.Options.{none_of}
-use Rattle.job.specs.declared.Condition.{Condition}
 use Rattle.job.specs.Meaning.{condition_of}
 use Rattle.conditions.specs.Meeting.{always}
 use Rattle.conditions.proofs.Meeting.{Ends}
