@@ -10,11 +10,17 @@ use native.Mathlib.Omega.{arith}
 use lib.ListN.{length, take, drop, replicate, length-append}
 use mir.Facts.{and_yes, yes_and, or_yes}
 use lib.Dec.{T, T_not}
+use Rattle.std.specs.List.{list_any}
 use Rattle.base.specs.Lists.{◌∈◌, SameSet, Distinct, any_of, all_of, filter, find, once, concat, is_empty, flat_map, pairwise, last_of, in_last}
 use Rattle.base.proofs.Tests.{T-is, or_left, or_right, neither}
 
 module _ {A : Type 0} where
   -- ---- any and all
+  -- the library's word says what the definitions' does
+  pub any_is : (p : A → Bool) (xs : List A) → list_any p xs ≡ any_of p xs
+  any_is p [] = refl
+  any_is p (x ∷ xs) = rw (any_is p xs)
+
   pub any_has : (p : A → Bool) (xs : List A) → T (any_of p xs) → (x : A) × (x ∈ xs) × T (p x)
   any_has p [] t = absurd t
   any_has p (x ∷ xs) t = step (or_yes (p x) (any_of p xs) t) (any_has p xs)
