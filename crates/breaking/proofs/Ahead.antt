@@ -1,21 +1,21 @@
 -- Laws of the looks at clauses that are still to be broken. Assumes nothing.
-use mathlib.Core.Path.{◌≡◌, sym, ◌∙◌}
-use mathlib.Core.Bool.{Bool, true, false}
-use mathlib.Core.List.{List, []}
-use Prim.Native.Nat.{ℕ, ◌+◌, ◌<◌, ◌≤◌}
+use mathlib.Core.Path.{◌≡◌, refl}
+use mathlib.Core.Bool.{Bool}
+use mathlib.Core.List.{List, [], ◌∷◌}
+use Prim.Native.Nat.{ℕ, zero, suc, ◌<◌}
 use native.Mathlib.Omega.{arith}
-use lib.ListN.{length, get_or, drop}
+use lib.ListN.{length, get_or}
 use Rattle.base.specs.Lists.{at, all_of}
 use Rattle.base.proofs.Places.{element}
-use Rattle.base.proofs.Turns.{all_fails, all_more, all_done}
+use Rattle.std.specs.List.{list_all}
 use Rattle.zone.specs.declared.Constraint.{Constraint}
 use Rattle.zone.specs.Zone.{Zone}
 use Rattle.zone.specs.Uses.{Follows}
 use Rattle.breaking.specs.declared.Choices.{Choices}
 use Rattle.breaking.specs.Breaking.{breakable}
 use Rattle.breaking.specs.Places.{ways_in, clause_ways, choices_in, in_order}
-use Rattle.breaking.specs.Uses.{LooksAfter, LooksAhead}
-use Rattle.breaking.proofs.Clauses.{order_length, order_at}
+use Rattle.breaking.specs.Uses.{Numbers, LooksAfter, LooksAhead}
+use Rattle.breaking.proofs.Clauses.{choices_at}
 
 -- ---- The ways of one clause; none stands for what is past the end
 
@@ -24,26 +24,28 @@ pub after_asks : {z : Zone} {c : Constraint} {ws : List Constraint} (none : Cons
 after_asks {ws = ws} none {i} u more =
     record { first = u.way; allowed = u.allowed; second = u.ways (get_or ws i none) (element ws i none more) }
 
--- ---- The clauses from place i of the order on; r is what the look at the clause there says
+-- ---- The clauses of an order: each can be looked at by itself
 
-pub ahead_asks : {z : Zone} {c : Constraint} {k : Choices} {o : List ℕ} {i : ℕ} → LooksAhead z c k o → i < length o
-    → LooksAfter z c (ways_in (clause_ways k (at o i)))
-ahead_asks {o = o} {i} u h =
-    record { way = u.chosen.way; allowed = u.allowed; ways = u.chosen.choices.each (at o i) (u.chosen.rest i h) }
+module _ {z : Zone} {c : Constraint} {k : Choices} where
+  pub ahead_one : {o : List ℕ} {i q : ℕ} → LooksAhead z c k o → i < length o → q ≡ at o i → LooksAhead z c k (q ∷ [])
+  ahead_one {o} {i} {q} u h e =
+      record { chosen = record { way = u.chosen.way; choices = u.chosen.choices; rest = one }; allowed = u.allowed }
+    where
+      one : Numbers (q ∷ [])
+      one zero l = rw e (u.chosen.rest i h)
+      one (suc j) l = omega arith
 
-module _ (z : Zone) (k : Choices) (o : List ℕ) (i : ℕ) {b : Bool} (left : all_of (breakable z) (drop i (in_order o (choices_in k))) ≡ b) where
-  module _ {r : Bool} (here : i < length o) (look : r ≡ breakable z (ways_in (clause_ways k (at o i)))) where
-    is_next : breakable z (get_or (in_order o (choices_in k)) i []) ≡ r
-    is_next = rw (order_at k o i here) (sym look)
+  pub ahead_in : {q : ℕ} → LooksAhead z c k (q ∷ []) → q < 4
+  ahead_in u = u.chosen.rest 0 (omega arith)
 
-    there : i < length (in_order o (choices_in k))
-    there = omega (arith, order_length k o)
+  pub ahead_asks : {q : ℕ} → LooksAhead z c k (q ∷ []) → LooksAfter z c (ways_in (clause_ways k q))
+  ahead_asks {q} u = record { way = u.chosen.way; allowed = u.allowed; ways = u.chosen.choices.each q (ahead_in u) }
 
-    pub clause_met : r ≡ false → false ≡ b
-    clause_met h = all_fails (breakable z) [] (in_order o (choices_in k)) i left there (is_next ∙ h)
+-- what the look at clause q says
+abbrev pub breaks : Zone → Choices → ℕ → Bool
+breaks z k q = breakable z (ways_in (clause_ways k q))
 
-    pub clause_open : r ≡ true → all_of (breakable z) (drop (i + 1) (in_order o (choices_in k))) ≡ b
-    clause_open h = all_more (breakable z) [] (in_order o (choices_in k)) i left there (is_next ∙ h)
-
-  pub clauses_open : length o ≤ i → true ≡ b
-  clauses_open past = all_done (breakable z) [] (in_order o (choices_in k)) i left (omega (arith, order_length k o))
+pub all_open : (z : Zone) (k : Choices) (o : List ℕ) → list_all (breaks z k) o ≡ all_of (breakable z) (in_order o (choices_in k))
+unfolding in_order
+all_open z k [] = refl
+all_open z k (q ∷ o) = rw (choices_at k q, all_open z k o)

@@ -2,15 +2,16 @@
 // still to be broken.
 #![tactic(auto)]
 
-ghost use Rattle.std.specs.Prelude.{◌≡◌, ◌+◌, ◌<◌, ◌≤◌, length, take};
+ghost use Rattle.std.specs.Prelude.{◌≡◌, [], ◌∷◌, ◌+◌, ◌<◌, ◌≤◌, length, take};
 ghost use Rattle.base.specs.Lists.{all_of};
 ghost use Rattle.base.specs.Options.{is_some};
 ghost use Rattle.job.specs.Meaning.{clause_of, condition_of};
-ghost use Rattle.zone.specs.Zone.{tightened};
+ghost use Rattle.zone.specs.Zone.{allows, tightened};
+ghost use Rattle.zone.specs.Uses.{Follows};
 ghost use Rattle.conditions.specs.Meeting.{Lies};
 ghost use Rattle.conditions.specs.Uses.{Small};
 ghost use Rattle.breaking.specs.Breaking.{with_way, ways_of, choices_of, breakable, chosen};
-ghost use Rattle.breaking.specs.Places.{ways_in, choices_in, in_order};
+ghost use Rattle.breaking.specs.Places.{ways_in, clause_ways, choices_in, in_order};
 ghost use Rattle.breaking.specs.Uses.{FewWays, PutsWays, LooksAfter, LooksAhead, Chooses};
 
 use job::{Clause, Condition, Job};
@@ -109,12 +110,12 @@ fn breakable_after<const N: usize>(z: &Zone<N>, c: Constraint, ways: &[Constrain
     requires { LooksAfter z.now c ways.now }
     ensures { result ≡ breakable (tightened z.now c) ways.now }
 {
-    for e in ways {
-        if z.allows_after(c, *e) {
-            return true;
-        }
-    }
-    false
+    ways.iter().any(
+        |e| -> bool
+            requires { Follows z.now c e.now }
+            ensures { result ≡ allows (tightened z.entry.now c) e.now }
+        { z.allows_after(c, *e) },
+    )
 }
 
 // Looks ahead: whether each clause that is still to be broken could then be broken.
@@ -122,12 +123,12 @@ fn open_after<const N: usize>(z: &Zone<N>, c: Constraint, k: &Choices, rest: &[u
     requires { LooksAhead z.now c k.now rest.now }
     ensures { result ≡ all_of (breakable (tightened z.now c)) (in_order rest.now (choices_in k.now)) }
 {
-    for q in rest {
-        if !breakable_after(z, c, k.ways[*q].as_slice()) {
-            return false;
-        }
-    }
-    true
+    rest.iter().all(
+        |q| -> bool
+            requires { LooksAhead z.now c k.now (q.now ∷ []) }
+            ensures { result ≡ breakable (tightened z.entry.now c) (ways_in (clause_ways k.entry.now q.now)) }
+        { breakable_after(z, c, k.ways[*q].as_slice()) },
+    )
 }
 
 // Lays the rows of a zone that obey the constraint too into another, which is lent, unless there are none, or some clause that is still to

@@ -1,24 +1,21 @@
 use borrow.Author.Rules.{rules}
-use mathlib.Core.Path.{refl, sym, ◌∙◌}
-use Rattle.base.proofs.Turns.{any_here, any_more, any_done}
-use Rattle.breaking.specs.Breaking.{free, breakable}
+use mathlib.Core.Path.{◌∙◌}
+use Rattle.std.proofs.lemmas.Iterator.{YieldsList-from_slice}
+use Rattle.std.proofs.lemmas.Iterator.Adapters.{serves_from_places}
+use Rattle.std.proofs.lemmas.Iterator.Search.{any_from_yields_List}
+use Rattle.base.proofs.Lists.{any_is}
+use Rattle.zone.specs.Zone.{allows, tightened}
+use Rattle.breaking.specs.Breaking.{breakable}
 use Rattle.breaking.proofs.Ahead.{after_asks}
 use Rattle.breaking.proofs.breakable_after.Goals as goal
 
-pub loop-e-init : goal.loop-e-init
-unfolding breakable
-loop-e-init g c = refl
-
-pub allows_after-requires : goal.allows_after-requires
-allows_after-requires g c = (search rules, after_asks _ c.requires c.loop-e-test.true)
-
-pub returns-then-allows_after : goal.returns-then-allows_after
-returns-then-allows_after g c =
-    any_here _ _ c.args.ways.now c.loop-e.e-index c.loop-e.invariant c.loop-e-test.true (sym c.allows_after.ensures ∙ c.if-allows_after.true)
-
-pub loop-e-preserved : goal.loop-e-preserved
-loop-e-preserved g c =
-    any_more _ _ c.args.ways.now c.loop-e.e-index c.loop-e.invariant c.loop-e-test.true (sym c.allows_after.ensures ∙ c.if-allows_after.false)
+pub any-requires-clause-callable : goal.any-requires-clause-callable
+any-requires-clause-callable g c =
+    serves_from_places (YieldsList-from_slice c.args.ways.now c.iter.ensures.rest) (λ x q r. search rules) (λ x k l e.
+    (search rules, rw e (after_asks x.now c.requires l)))
 
 pub returns : goal.returns
-returns g c = any_done _ free c.args.ways.now c.loop-e.e-index c.loop-e.invariant c.loop-e-test.false
+unfolding breakable
+returns g c =
+    any_from_yields_List (allows (tightened c.args.z.now c.args.c)) _ _ _ c.any.ensures.ran (YieldsList-from_slice _ c.iter.ensures.rest)
+    (λ x b q k. search rules) ∙ any_is _ c.args.ways.now

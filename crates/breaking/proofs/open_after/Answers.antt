@@ -1,27 +1,18 @@
 use borrow.Author.Rules.{rules}
-use mathlib.Core.Path.{refl, ap, ◌∙◌}
-use Rattle.breaking.specs.Breaking.{breakable}
-use Rattle.breaking.proofs.Ahead.{ahead_asks, clause_met, clause_open, clauses_open}
+use mathlib.Core.Path.{◌∙◌}
+use Rattle.std.proofs.lemmas.Iterator.{YieldsList-from_slice}
+use Rattle.std.proofs.lemmas.Iterator.Adapters.{serves_from_places}
+use Rattle.std.proofs.lemmas.Iterator.Search.{all_from_yields_List}
+use Rattle.std.proofs.lemmas.Grind.{get_or_default_zero}
+use Rattle.breaking.proofs.Ahead.{ahead_one, breaks, all_open}
 use Rattle.breaking.proofs.open_after.Goals as goal
 
-pub loop-q-init : goal.loop-q-init
-loop-q-init g c = refl
-
-pub as_slice-requires : goal.as_slice-requires
-as_slice-requires g c = c.requires.chosen.choices.few _ (c.requires.chosen.rest c.loop-q.q-index c.loop-q-test.true)
-
-pub breakable_after-requires : goal.breakable_after-requires
-breakable_after-requires g c = (search rules, rw c.as_slice.ensures (ahead_asks c.requires c.loop-q-test.true))
-
-pub returns-then-not-breakable_after : goal.returns-then-not-breakable_after
-returns-then-not-breakable_after g c =
-    clause_met _ c.args.k.now c.args.rest.now c.loop-q.q-index c.loop-q.invariant c.loop-q-test.true
-    (c.breakable_after.ensures ∙ ap (breakable _) c.as_slice.ensures) c.if-not-breakable_after.true
-
-pub loop-q-preserved : goal.loop-q-preserved
-loop-q-preserved g c =
-    clause_open _ c.args.k.now c.args.rest.now c.loop-q.q-index c.loop-q.invariant c.loop-q-test.true
-    (c.breakable_after.ensures ∙ ap (breakable _) c.as_slice.ensures) c.if-not-breakable_after.false
+pub all-requires-clause-callable : goal.all-requires-clause-callable
+all-requires-clause-callable g c =
+    serves_from_places (YieldsList-from_slice c.args.rest.now c.iter.ensures.rest) (λ x q r. search rules) (λ x i l e.
+    (search rules, ahead_one c.requires l (e ∙ get_or_default_zero c.args.rest.now i x.now l)))
 
 pub returns : goal.returns
-returns g c = clauses_open _ c.args.k.now c.args.rest.now c.loop-q.q-index c.loop-q.invariant c.loop-q-test.false
+returns g c =
+    all_from_yields_List (breaks _ c.args.k.now) _ _ _ c.all.ensures.ran (YieldsList-from_slice _ c.iter.ensures.rest) (λ x b q k. search rules)
+    ∙ all_open _ c.args.k.now c.args.rest.now
