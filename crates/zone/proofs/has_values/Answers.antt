@@ -1,24 +1,18 @@
+use borrow.Author.Rules.{rules}
 use mathlib.Core.Path.{◌∙◌}
-use native.Mathlib.Omega.{arith}
-use lib.ListN.{length-append}
-use Rattle.std.proofs.lemmas.Slice.Zip.{zip_turn, zip_end}
-use Rattle.zone.proofs.Values.{compare_start, compare_end, compare_turn, compare_not}
+use Rattle.std.proofs.lemmas.Iterator.{YieldsList-from_slice, YieldsList-from_zip}
+use Rattle.std.proofs.lemmas.Iterator.Adapters.{serves_from_places}
+use Rattle.std.proofs.lemmas.Iterator.Search.{all_from_yields_List}
+use Rattle.zone.proofs.Values.{has_zip, zip_node}
 use Rattle.zone.proofs.has_values.Goals as goal
 
-pub loop-p-init : goal.loop-p-init
-loop-p-init c = compare_start _ _ _
-
-pub returns-then-x-from : goal.returns-then-x-from
-returns-then-x-from c =
-    let t = zip_turn c.args.ps.now c.args.vs.now _ _ _ c.next.new.self _ (cc) (cc) c.loop-p.yielded_by _ c.in-Some.is c.next.ensures.steps in
-    compare_not c.requires c.loop-p.invariant t.0 (c.from.ensures ∙ t.2 0) (λ e. c.if-x-from.true (e ∙ cc (t.3 0)))
-
-pub loop-p-preserved : goal.loop-p-preserved
-loop-p-preserved c =
-    let t = zip_turn c.args.ps.now c.args.vs.now _ _ _ c.next.new.self _ (cc) (cc) c.loop-p.yielded_by _ c.in-Some.is c.next.ensures.steps in
-    compare_turn c.requires c.loop-p.invariant t.0 (c.from.ensures ∙ t.2 0) (c.if-x-from.false ∙ t.3 0) (length-append c.loop-p.yielded _)
+pub all-requires-clause-callable : goal.all-requires-clause-callable
+all-requires-clause-callable c =
+    serves_from_places (YieldsList-from_zip (YieldsList-from_slice c.args.ps.now (cc)) (YieldsList-from_slice c.args.vs.now (cc)))
+    (λ x q r. search rules) (λ x k l e. let h = zip_node c.requires _ l e in search rules)
 
 pub returns : goal.returns
 returns c =
-    let t = zip_end c.args.ps.now c.args.vs.now _ _ _ c.next.new.self _ (cc) (cc) c.loop-p.yielded_by c.in-None.is c.next.ensures.steps in
-    compare_end c.loop-p.invariant (omega (arith, t, c.requires.same))
+    all_from_yields_List _ c.all.new.self _ _ c.all.ensures.ran
+    (YieldsList-from_zip (YieldsList-from_slice c.args.ps.now (cc)) (YieldsList-from_slice c.args.vs.now (cc)))
+    (λ x b q k. search rules) ∙ has_zip c.args.x.now c.args.ps.now c.args.vs.now
