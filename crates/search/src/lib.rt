@@ -7,6 +7,7 @@ ghost use Rattle.base.specs.Lists.{filter};
 ghost use Rattle.base.specs.Options.{is_some};
 ghost use Rattle.job.specs.Meaning.{condition_of};
 ghost use Rattle.zone.specs.Zone.{point, allows};
+ghost use Rattle.zone.specs.Uses.{Joins};
 ghost use Rattle.conditions.specs.Meeting.{Lies};
 ghost use Rattle.breaking.specs.Places.{choices_in};
 ghost use Rattle.search.specs.Order.{weights, exchanged, order_by};
@@ -28,13 +29,14 @@ fn count_allowed<const N: usize>(z: &Zone<N>, ways: &[Constraint]) -> usize
     requires { WaysFit (length z.now) ways.now }
     ensures { result ≡ length (filter (allows z.now) ways.now) }
 {
-    let mut allowed = 0;
-    for c in ways {
-        if z.allows(*c) {
-            allowed += 1;
-        }
-    }
-    allowed
+    ways.iter()
+        .filter(
+            |c| -> bool
+                requires { Joins (length z.now) c.now.now }
+                ensures { result ≡ allows z.entry.now c.now.now }
+            { z.allows(**c) },
+        )
+        .count()
 }
 
 // What each clause weighs: as much as it has ways that some row takes.

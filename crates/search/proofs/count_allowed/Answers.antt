@@ -1,31 +1,24 @@
 use borrow.Author.Rules.{rules}
-use native.Mathlib.Omega.{arith}
+use mathlib.Core.Path.{◌∙◌, ap}
+use lib.ListN.{length}
+use Rattle.std.proofs.lemmas.Iterator.{YieldsList-from_slice}
+use Rattle.std.proofs.lemmas.Iterator.Adapters.{serves_from_places}
+use Rattle.std.proofs.lemmas.Iterator.Consumers.{YieldsList-from_filter, count_from_yields_List}
 use Rattle.base.proofs.Places.{element}
-use Prim.Native.Nat.{ℕ, ◌+◌}
-use mathlib.Core.Path.{refl, sym, ap, ◌∙◌}
-use Rattle.search.proofs.Weighing.{counted_most, counted_all, counted_taken, counted_left}
+use Rattle.zone.specs.Zone.{allows}
+use Rattle.search.proofs.Weighing.{filter_is}
 use Rattle.search.proofs.count_allowed.Goals as goal
-use Rattle.search.proofs.count_allowed.Goals.{else-allows, then-allows}
 
-pub loop-c-init : goal.loop-c-init
-loop-c-init g c = refl
-
-pub allows-requires : goal.allows-requires
-allows-requires g c = (search rules, c.requires _ (element _ _ _ c.loop-c-test.true))
-
-pub overflow_add-allowed : goal.overflow_add-allowed
-overflow_add-allowed g c =
-    omega (arith, c.loop-c.invariant, counted_most c.args.z.now c.args.ways.now c.loop-c.c-index)
-
-pub loop-c-preserved : goal.loop-c-preserved
-loop-c-preserved g c = elim c.if-allows.branch [
-  | then-allows w ↦
-      w.allowed-is ∙ ap (λ (m : ℕ). m + 1) c.loop-c.invariant
-      ∙ counted_taken c.args.z.now c.args.ways.now _ c.loop-c-test.true (sym c.allows.ensures.answer ∙ w.if-allows.true)
-  | else-allows w ↦
-      w.allowed-is ∙ c.loop-c.invariant
-      ∙ counted_left c.args.z.now c.args.ways.now _ c.loop-c-test.true (sym c.allows.ensures.answer ∙ w.if-allows.false)
-]
+pub count-requires-clause-can : goal.count-requires-clause-can
+count-requires-clause-can g c = (
+  tt,
+  tt,
+  serves_from_places (YieldsList-from_slice c.args.ways.now (cc)) (λ x q r. search rules) (λ x k l e.
+      let h = c.requires x.now (rw e (element c.args.ways.now k x.now l)) in search rules),
+)
 
 pub returns : goal.returns
-returns g c = c.loop-c.invariant ∙ counted_all c.args.z.now c.args.ways.now c.loop-c-test.false
+returns g c =
+    count_from_yields_List c.filter.result _ c.count.ensures.ran
+    (YieldsList-from_filter _ (allows c.args.z.now) (YieldsList-from_slice c.args.ways.now (cc)) c.filter.ensures.closure (λ x b q k. search rules))
+    ∙ ap length (filter_is _ c.args.ways.now)
