@@ -1,5 +1,6 @@
 // Conditions and the rows of a zone: those that meet a clause, or a clause of each of two conditions. They are laid into a lent zone, since
-// one is too large to be handed back, and the answer is whether there are any.
+// one is too large to be handed back, and the answer is whether there are any. An Option of the lent zone can't be handed on by a caller
+// that lends it again where there is none (rustc's E0499), and would lose what the zone is then.
 #![tactic(auto)]
 
 ghost use Rattle.std.specs.Prelude.{◌≡◌, ◌++◌};
