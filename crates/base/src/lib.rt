@@ -5,7 +5,7 @@
 ghost use Rattle.std.specs.Prelude.{[], ◌∷◌};
 ghost use Rattle.base.specs.Bytes.{Room, Puts};
 
-// Lent bytes, and the place where the next one is put.
+// Lent bytes, and the place where the next one is put, which stands beside them, since they are as long as they were lent.
 #[derive(Drop)]
 pub struct Output<'a> {
     pub bytes: &'a mut [u8],

@@ -18,7 +18,7 @@ use job::{Clause, Condition, Job};
 use zone::{Constraint, Zone};
 
 // The ways in which one clause is broken, the first `count` of a list: a row breaks it where it obeys one of these constraints. A
-// comparison fails in two ways at most.
+// comparison fails in two ways at most. Here and in `Choices` a count stands beside an array, since memory is fixed.
 #[derive(Clone, Copy, Default)]
 pub struct Ways {
     pub count: usize,
@@ -132,7 +132,7 @@ fn open_after<const N: usize>(z: &Zone<N>, c: Constraint, k: &Choices, rest: &[u
 }
 
 // Lays the rows of a zone that obey the constraint too into another, which is lent, unless there are none, or some clause that is still to
-// be broken can't be broken then. Nothing is copied before that is known.
+// be broken can't be broken then. Nothing is copied before that is known; whether any are laid is the answer, as in crate conditions.
 pub fn choose<const N: usize>(
     z: &Zone<N>,
     to: &mut Zone<N>,

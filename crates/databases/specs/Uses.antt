@@ -7,7 +7,7 @@ use Rattle.job.specs.declared.Columns.{Columns}
 use Rattle.twins.specs.Uses.{TwinsStand}
 use Rattle.databases.specs.Databases.{table_at}
 
--- columns and their tables are no more than there can be
+-- columns and their tables are no more than there can be: a lent record may have any, and it is judged before databases are made
 pub record TablesFew (k : Columns) : Type 0 where
   pub width : k.width ≤ 16
   pub tables : (c : ℕ) → c < k.width → table_at k.columns c < 4

@@ -29,7 +29,7 @@ fn put_digits(out: &mut Output, n: usize)
     out.put(b'0' + (n % 10) as u8);
 }
 
-// A number behind a word.
+// A number behind a word, by hand as in `put_digits`.
 fn put_field(out: &mut Output, word: &[u8], n: usize)
     requires { Room out.old (word.now ++ digits n) }
     ensures { Puts out.old out.new (word.now ++ digits n) }

@@ -148,7 +148,8 @@ fn broken<const N: usize>(
     found
 }
 
-// Some rows of a zone that meet both conditions and break every clause of another, or none.
+// Some rows of a zone that meet both conditions and break every clause of another, or none. Document 01 has labelled loops here, as in
+// `broken`, and no function that takes what is done with a pair of clauses.
 pub fn outside<const N: usize>(
     z: &Zone<N>,
     a: &Condition,

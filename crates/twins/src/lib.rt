@@ -25,7 +25,7 @@ use zone::Zone;
 pub const COLUMNS: usize = 32;
 
 // Two rows that agree in the stored columns, as one row: how many columns it has, where the second row's value of each column stands, and
-// the bounds of its columns.
+// the bounds of its columns. The count stands beside arrays, since memory is fixed.
 #[derive(Clone, Copy, Default)]
 pub struct TwinRows {
     pub columns: usize,
@@ -47,7 +47,7 @@ fn rename_comparison(k: Comparison, twin: &[u8; Job::COLUMNS]) -> Comparison
     Comparison { left, right, ..k }
 }
 
-// In each comparison of a clause, as `rename` does in each clause of a condition.
+// In each comparison of a clause, as `rename` does in each clause of a condition: one loop for both would be no shorter than the two.
 fn rename_clause(c: Clause, twin: &[u8; Job::COLUMNS]) -> Clause
     requires { RenamesClause c twin.now }
     ensures { result ≡ renamed_clause twin.now c }
