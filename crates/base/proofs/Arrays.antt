@@ -8,7 +8,7 @@ use native.Mathlib.Omega.{arith}
 use native.Mathlib.Numerals.{add-one, unary_clauses}
 use native.Mathlib.Nat.{eq-or-lt_of_le, le_of_suc-le-suc, zero-add}
 use lib.ListN.{length, get_or, set, take, drop, replicate, length-append, length-set, length-replicate, length-drop, drop_of_length-le, get_or-append}
-use lib.Seq.{set-append_seam, set-append_left, get_or-append-add, get_or-set_same, get_or-set_other, set-get_or, set-set, set_comm, ext_get_or, take-append_seam, drop-append_seam, get_or-drop}
+use lib.Seq.{length-take-le, set-append_seam, set-append_left, get_or-append-add, get_or-set_same, get_or-set_other, set-get_or, set-set, set_comm, ext_get_or, take-append_seam, drop-append_seam, get_or-drop}
 use Rattle.base.specs.Lists.{◌∈◌, tabulate}
 use Rattle.base.specs.Arrays.{padded, EmptyPast, filled}
 use Rattle.base.proofs.Tests.{by_less}
@@ -219,6 +219,15 @@ module _ {A : Type 0} where
   pub front_padded : (d : A) {f : ℕ → A} {m all n : ℕ} {ys : List A} → Pass f 0 all n (replicate m d) ys → all ≤ n → all ≤ m → ys ≡ padded m d (tabulate all f)
   front_padded d {f} {m} {all} s past room =
       front_part s past (omega (arith, length-replicate m d)) ∙ rw (tabulate_length all f, drop_replicate all m d)
+
+  -- in the front of such an array, as a slice of it
+  module _ (d : A) {m all : ℕ} (room : all ≤ m) where
+    pub front_size : length (take all (replicate m d)) ≡ all
+    front_size = length-take-le all (replicate m d) (omega (arith, length-replicate m d))
+
+    pub front_slice : {f : ℕ → A} {n : ℕ} {ys : List A} → Pass f 0 all n (take all (replicate m d)) ys → all ≤ n
+        → ys ++ drop all (replicate m d) ≡ padded m d (tabulate all f)
+    front_slice {f} s past = rw (front_end s past front_size, drop_replicate all m d, tabulate_length all f)
 
 -- with the images of another list's elements
 pub front_map : {A B : Type 0} (g : A → B) (d : A) (from : List A) {n : ℕ} {xs ys : List B} → Pass (λ i. g (get_or from i d)) 0 (length from) n xs ys

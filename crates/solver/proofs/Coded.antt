@@ -1,29 +1,20 @@
 -- Comparisons as the code is given them: their nodes, what is added, and those of a list. Assumes nothing.
 use mathlib.Core.Path.{◌≡◌, refl}
 use mathlib.Core.List.{List, map}
-use Prim.Native.Nat.{ℕ, zero, suc, ◌+◌, ◌-◌, ◌*◌, ◌<◌, ◌≤◌}
+use Prim.Native.Nat.{ℕ, zero, suc, ◌-◌, ◌*◌, ◌<◌, ◌≤◌}
 use native.Mathlib.Omega.{arith}
-use native.Mathlib.Numerals.{add-one}
 use lib.ListN.{length, get_or, length-map}
 use lib.IntN.{ℤ}
 use lib.Signed.{mag}
-use lib.Dec.{T, ltb, ltb→lt}
-use mir.Facts.{and_yes}
 use borrow.Author.Tests.{ne_eqb}
 use Rattle.base.proofs.Places.{map_at}
 use Rattle.words.specs.Word.{sign_bit}
 use Rattle.words.proofs.Biases.{biased_low, biased_high}
-use Rattle.words.specs.declared.Op.{Op}
-use Rattle.words.specs.Compare.{op_at}
 use Rattle.job.specs.declared.Comparison.{Comparison}
 use Rattle.job.specs.Record.{no_comparison}
 use Rattle.job.specs.Meaning.{side_of, comparison_of}
-use Rattle.zone.specs.Zone.{Zone, level, columns_of}
-use Rattle.solver.specs.Comparisons.{node_of, added_to, between, against, constraints_of, negations_of}
-use Rattle.solver.specs.Solver.{against_fits, comparison_fits, imposed_by, imposed}
-use Rattle.solver.specs.Uses.{ImposesNodes}
-use Rattle.solver.proofs.Comparisons.{added_some, added_most}
-use Rattle.solver.proofs.Solver.{node_in}
+use Rattle.zone.specs.Zone.{level}
+use Rattle.solver.specs.Comparisons.{node_of, added_to}
 use Rattle.solver.proofs.Progress.{Next}
 
 -- ---- one comparison; a, b and w are its nodes and what is added, as the code has them
@@ -35,27 +26,6 @@ side_node (suc r) v = rw (ne_eqb (suc r) 0 (λ e. omega arith)) (let e : suc (su
 pub word_added : (r : ℕ) (v : ℤ) → mag v < sign_bit 4 → (0 < added_to (side_of r v)) × (added_to (side_of r v) < 2 * level)
 word_added zero v h = (omega (arith, biased_low level (sign_bit 4) v h), omega (arith, biased_high level (sign_bit 4) v h))
 word_added (suc r) v h = rw (ne_eqb (suc r) 0 (λ e. omega arith)) (omega arith, omega arith)
-
-module _ (k : Comparison) {o : Op} {a b w : ℕ} (s : o ≡ op_at k.op) (p : a ≡ k.left) (q : b ≡ k.right) (r : w ≡ added_to (side_of k.right k.number)) where
-  pub negations_are : against o (a + 1) b w ≡ negations_of (comparison_of k)
-  unfolding negations_of
-  negations_are = rw (s, p, q, r, side_node k.right k.number, add-one k.left)
-
-  pub imposed_is : (z : Zone) → imposed_by z (between o (a + 1) b w) ≡ imposed z (comparison_of k)
-  unfolding imposed constraints_of
-  imposed_is z = rw (s, p, q, r, side_node k.right k.number, add-one k.left)
-
-  pub nodes_asked : (z : Zone) → T (comparison_fits (columns_of z) (comparison_of k)) → ImposesNodes z (a + 1) b w
-  nodes_asked z fit =
-      let n = columns_of z in
-      let side = side_of k.right k.number in
-      let (l, t) = and_yes (ltb k.left n) (against_fits n side) fit in
-      record {
-        left_in = omega (arith, ltb→lt k.left n l);
-        right_in = omega (arith, side_node k.right k.number, node_in n side t, ltb→lt k.left n l);
-        added_some = rw r (added_some n side t);
-        added_most = rw r (added_most n side t);
-      }
 
 -- ---- those of a list
 

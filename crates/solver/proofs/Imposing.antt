@@ -21,8 +21,8 @@ use Rattle.words.specs.declared.Op.{Op}
 use Rattle.words.specs.declared.Op.TheVariants.{Less, AtMost, Equal, AtLeast, More}
 use Rattle.model.specs.Tables.{Comparison}
 use Rattle.solver.specs.declared.Constraints.{Constraints}
-use Rattle.solver.specs.Comparisons.{at_most_by, between, list_of, constraints_of}
-use Rattle.solver.specs.Uses.{ImposesNodes}
+use Rattle.solver.specs.Comparisons.{Nodes, at_most_by, between, list_of, constraints_of}
+use Rattle.solver.specs.Uses.{NodesIn}
 use Rattle.solver.specs.Solver.{constrained_by, imposed_by, imposed, imposed_all}
 use Rattle.solver.specs.Lists.{onward, reached}
 
@@ -86,9 +86,28 @@ between_two Equal a b w t = (refl, cc)
 between_two AtLeast a b w t = absurd (cc)
 between_two More a b w t = absurd (cc)
 
-module _ (z : Zone) (o : Op) (a b w : ℕ) (u : ImposesNodes z a b w) (p : Constraints) (e : p ≡ between o a b w) where
+module _ {z : Zone} {n i : Nodes} (inside : NodesIn z n) (view : i ≡ n) (added : (0 < i.added) × (i.added < 2 * level))
+    {p : Constraints} (e : p ≡ between n.op n.left n.right n.added) where
+  abbrev o : Op
+  o = n.op
+
+  abbrev a : ℕ
+  a = n.left
+
+  abbrev b : ℕ
+  b = n.right
+
+  abbrev w : ℕ
+  w = n.added
+
+  added_some : 0 < w
+  added_some = rw (← view) added.0
+
+  added_most : w < 2 * level
+  added_most = rw (← view) added.1
+
   pub first_joins : Joins (length z) p.first
-  first_joins = rw e (between_joins z o a b w u.left_in u.right_in u.added_some u.added_most)
+  first_joins = rw e (between_joins z o a b w inside.left_in inside.right_in added_some added_most)
 
   -- what is answered, and left of the zone
   abbrev pub Outcome : Bool → Zone → Type 0
@@ -108,7 +127,7 @@ module _ (z : Zone) (o : Op) (a b w : ℕ) (u : ImposesNodes z a b w) (p : Const
     equal = rw e (between_two o a b w (rw e at t))
 
     pub second_joins : Joins (length z) c
-    second_joins = rw equal.1 (record { left_in = u.right_in; right_in = u.left_in; most_fits = omega arith })
+    second_joins = rw equal.1 (record { left_in = inside.right_in; right_in = inside.left_in; most_fits = omega arith })
 
     pub next_joins : Joins (length (kept z (constrained z p.first))) c
     next_joins = rw (kept_length z p.first) second_joins
@@ -138,7 +157,7 @@ module _ (z : Zone) (o : Op) (a b w : ℕ) (u : ImposesNodes z a b w) (p : Const
       both_allowed : allows z p.first ≡ true → allows z c ≡ true → T (allows (tightened z p.first) c)
       both_allowed f s =
           rw (equal.0, equal.1)
-          (back_allowed z a b w cl u.left_in u.right_in (omega (arith, u.added_most))
+          (back_allowed z a b w cl inside.left_in inside.right_in (omega (arith, added_most))
           (let q : T (allows z p.first) = rw f tt in rw equal.0 at q)
           (let q : T (allows z c) = rw s tt in rw equal.1 at q))
 

@@ -17,6 +17,16 @@ abbrev pub added_to : Against → ℕ
 added_to (column c) = level
 added_to (number v) = biased level v
 
+-- a comparison over nodes: the left one compared by op with the right one and what is added to it
+pub record Nodes : Type 0 where
+  pub op : Op
+  pub left : ℕ
+  pub right : ℕ
+  pub added : ℕ
+
+abbrev pub over_nodes : Comparison → Nodes
+over_nodes k = record { op = k.op; left = suc k.left; right = node_of k.right; added = added_to k.right }
+
 -- node a exceeds node b by at most what w allows
 abbrev pub at_most_by : ℕ → ℕ → ℕ → Constraint
 at_most_by a b w = record { left = a; right = b; most = w }

@@ -7,7 +7,8 @@ use Rattle.words.specs.Word.{sign_bit}
 use Rattle.model.specs.declared.Bounds.{Bounds}
 use Rattle.job.specs.declared.Comparison.{Comparison}
 use Rattle.job.specs.Meaning.{comparison_of}
-use Rattle.zone.specs.Zone.{Zone, level}
+use Rattle.zone.specs.Zone.{Zone}
+use Rattle.solver.specs.Comparisons.{Nodes}
 use Rattle.solver.specs.Solver.{bounds_fit, comparison_fits}
 
 -- every value is of 32 bits; an i32 slice has no others, but a proof learns it only by reading them
@@ -26,12 +27,10 @@ pub record BoundsRoom (size : ℕ) (bs : List Bounds) : Type 0 where
   pub small : length bs ≤ 32
   pub fit : T (all_of bounds_fit bs)
 
--- two nodes of a zone, and what is added to the second
-pub record ImposesNodes (z : Zone) (a b added : ℕ) : Type 0 where
-  pub left_in : a < length z
-  pub right_in : b < length z
-  pub added_some : 0 < added
-  pub added_most : added < 2 * level
+-- two nodes of a zone
+pub record NodesIn (z : Zone) (n : Nodes) : Type 0 where
+  pub left_in : n.left < length z
+  pub right_in : n.right < length z
 
 -- bounds, comparisons of their columns, and room for a row
 pub record Solves (bs : List Bounds) (list : List Comparison) (row : List ℤ) : Type 0 where

@@ -8,13 +8,14 @@ ghost use Rattle.base.specs.Options.{is_some};
 ghost use Rattle.model.specs.Least.{least_row};
 ghost use Rattle.zone.specs.Zone.{level, columns_of, kept, least_of};
 ghost use Rattle.solver.specs.Solver.{comparison_fits, los, his, row_of, box_of, imposed_by, imposed, imposed_all};
-ghost use Rattle.solver.specs.Uses.{Words, WordNodes, BoundsRoom, ImposesNodes, Solves};
-ghost use Rattle.solver.specs.Comparisons.{added_to, at_most_by, one, between, against, negations_of};
+ghost use Rattle.solver.specs.Uses.{Words, WordNodes, BoundsRoom, NodesIn, Solves};
+ghost use Rattle.solver.specs.Comparisons.{added_to, over_nodes, at_most_by, one, between, against, negations_of};
 ghost use Rattle.job.specs.Meaning.{side_of, comparison_of};
 ghost use Rattle.solver.specs.Lists.{reached, row_or_zeros};
 
 use job::Comparison;
 use model::Bounds;
+use std::marker::Model;
 use words::Op;
 use zone::{Constraint, Zone};
 
@@ -34,49 +35,130 @@ fn one(left: usize, right: usize, most: u64) -> Constraints
     }
 }
 
-// Node a compared by op with node b and what is added to it.
-pub fn between(op: Op, a: usize, b: usize, added: u64) -> Constraints
-    requires { (0 < added) × (added < 2 * level) }
-    ensures { result ≡ between op a b added }
+// What is added to the right node of a comparison: the number, where that node is 0.
+fn added_to(right: u8, number: i32) -> u64
+    ensures { result ≡ added_to (side_of right number) }
 {
-    match op {
-        Op::Less => one(a, b, added - 1),
-        Op::AtMost => one(a, b, added),
-        Op::Equal => Constraints {
-            first: Constraint {
-                left: a,
-                right: b,
-                most: added,
-            },
-            second: Some(Constraint {
-                left: b,
-                right: a,
-                most: zone::TWICE - added,
-            }),
-        },
-        Op::AtLeast => one(b, a, zone::TWICE - added),
-        Op::More => one(b, a, zone::TWICE - added - 1),
+    if right == 0 {
+        words::to_biased(number) + (zone::LEVEL - words::BIAS)
+    } else {
+        zone::LEVEL
     }
 }
 
-// The ways in which that comparison fails: the constraints of the ops that hold where this one doesn't.
-fn against(op: Op, a: usize, b: usize, added: u64) -> Constraints
-    requires { (0 < added) × (added < 2 * level) }
-    ensures { result ≡ against op a b added }
-{
-    match op {
-        Op::Less => between(Op::AtLeast, a, b, added),
-        Op::AtMost => between(Op::More, a, b, added),
-        Op::Equal => {
-            let less = between(Op::Less, a, b, added);
-            let more = between(Op::More, a, b, added);
-            Constraints {
-                first: less.first,
-                second: Some(more.first),
-            }
+// A comparison over nodes: the left one compared by op with the right one and what is added to it.
+#[derive(Drop)]
+pub struct OverNodes {
+    op: Op,
+    left: usize,
+    right: usize,
+    added: u64,
+}
+
+// What is added leaves room both ways, so that no constraint falls below zero.
+impl Model for OverNodes {
+    ghost use Rattle.std.specs.Prelude.{◌*◌, ◌<◌};
+    ghost use Rattle.zone.specs.Zone.{level};
+    ghost use Rattle.solver.specs.Comparisons.{Nodes};
+
+    ghost Value = { Nodes };
+
+    ghost view = { λ n. record { op = n.op; left = n.left; right = n.right; added = n.added } };
+
+    ghost invariant = { λ n. (0 < n.added) × (n.added < 2 * level) };
+}
+
+impl From<Comparison> for OverNodes {
+    ghost from_gives = { λ k n. n ≡ over_nodes (comparison_of k) };
+
+    fn from(k: Comparison) -> Self {
+        Self {
+            op: Op::at(k.op),
+            left: usize::from(k.left) + 1,
+            right: usize::from(k.right),
+            added: added_to(k.right, k.number),
         }
-        Op::AtLeast => between(Op::Less, a, b, added),
-        Op::More => between(Op::AtMost, a, b, added),
+    }
+}
+
+impl OverNodes {
+    // The constraints that hold where it does.
+    pub fn constraints(&self) -> Constraints
+        ensures { result ≡ between self.now.op self.now.left self.now.right self.now.added }
+    {
+        let a = self.left;
+        let b = self.right;
+        let most = self.added;
+        match self.op {
+            Op::Less => one(a, b, most - 1),
+            Op::AtMost => one(a, b, most),
+            Op::Equal => Constraints {
+                first: Constraint {
+                    left: a,
+                    right: b,
+                    most,
+                },
+                second: Some(Constraint {
+                    left: b,
+                    right: a,
+                    most: zone::TWICE - most,
+                }),
+            },
+            Op::AtLeast => one(b, a, zone::TWICE - most),
+            Op::More => one(b, a, zone::TWICE - most - 1),
+        }
+    }
+
+    // The same nodes, compared by another op.
+    fn by(&self, op: Op) -> Constraints
+        ensures { result ≡ between op self.now.left self.now.right self.now.added }
+    {
+        Self {
+            op,
+            left: self.left,
+            right: self.right,
+            added: self.added,
+        }
+        .constraints()
+    }
+
+    // The ways in which it fails: the constraints of the ops that hold where this one doesn't.
+    fn negations(&self) -> Constraints
+        ensures { result ≡ against self.now.op self.now.left self.now.right self.now.added }
+    {
+        match self.op {
+            Op::Less => self.by(Op::AtLeast),
+            Op::AtMost => self.by(Op::More),
+            Op::Equal => Constraints {
+                first: self.by(Op::Less).first,
+                second: Some(self.by(Op::More).first),
+            },
+            Op::AtLeast => self.by(Op::Less),
+            Op::More => self.by(Op::AtMost),
+        }
+    }
+
+    // Keeps the rows of a zone that meet it; where there are none it says so, and leaves the zone as it is. That is why both constraints of
+    // "equal" are looked at before the first is set.
+    fn impose<const N: usize>(&self, z: &mut Zone<N>) -> bool
+        requires { NodesIn z.old self.now }
+        ensures answer { result ≡ is_some (imposed_by z.old (between self.now.op self.now.left self.now.right self.now.added)) }
+        ensures zone { z.new ≡ kept z.old (imposed_by z.old (between self.now.op self.now.left self.now.right self.now.added)) }
+    {
+        // a look at a field tells what is true of each
+        let _ = &self.added;
+        let p = self.constraints();
+        let first = p.first;
+        let Some(second) = p.second else {
+            return z.constrain(first);
+        };
+        if !z.allows(second) {
+            return false;
+        }
+        if !z.constrain(first) {
+            return false;
+        }
+        z.constrain(second)
     }
 }
 
@@ -98,8 +180,8 @@ pub fn set_bounds<const N: usize>(z: &mut Zone<N>, bounds: &[Bounds])
 {
     let n = bounds.len() + 1;
     // node 0 is left as it stands here
-    let mut low = [zone::BIAS; zone::WIDTH];
-    let mut high = [zone::BIAS; zone::WIDTH];
+    let mut low = [words::BIAS; zone::WIDTH];
+    let mut high = [words::BIAS; zone::WIDTH];
     for (i, b) in bounds.iter().enumerate() {
         low[i + 1] = words::to_biased(b.lo);
         high[i + 1] = words::to_biased(b.hi);
@@ -107,65 +189,22 @@ pub fn set_bounds<const N: usize>(z: &mut Zone<N>, bounds: &[Bounds])
     z.set_box(&low[..n], &high[..n]);
 }
 
-// Keeps the rows in which node a compares by op with node b and what is added to it; where there are none it says so, and leaves the zone
-// as it is. That is why both constraints of "equal" are looked at before the first is set.
-fn impose_nodes<const N: usize>(z: &mut Zone<N>, op: Op, a: usize, b: usize, added: u64) -> bool
-    requires { ImposesNodes z.old a b added }
-    ensures answer { result ≡ is_some (imposed_by z.old (between op a b added)) }
-    ensures zone { z.new ≡ kept z.old (imposed_by z.old (between op a b added)) }
-{
-    let p = between(op, a, b, added);
-    let first = p.first;
-    let Some(second) = p.second else {
-        return z.constrain(first);
-    };
-    if !z.allows(second) {
-        return false;
-    }
-    if !z.constrain(first) {
-        return false;
-    }
-    z.constrain(second)
-}
-
-// What is added to the right node of a comparison: the number, where that node is 0.
-fn added_to(right: u8, number: i32) -> u64
-    ensures { result ≡ added_to (side_of right number) }
-{
-    if right == 0 {
-        words::to_biased(number) + (zone::LEVEL - zone::BIAS)
-    } else {
-        zone::LEVEL
-    }
-}
-
 // The ways in which a comparison fails; one of them holds where it doesn't.
+#[tactic(auto, unfolding(crate::specs::Comparisons::negations_of))]
 pub fn negations(k: Comparison) -> Constraints
     ensures { result ≡ negations_of (comparison_of k) }
 {
-    let added = added_to(k.right, k.number);
-    against(
-        Op::at(k.op),
-        usize::from(k.left) + 1,
-        usize::from(k.right),
-        added,
-    )
+    OverNodes::from(k).negations()
 }
 
 // Keeps the rows that meet a comparison; where there are none it says so, and leaves the zone as it is.
+#[tactic(auto, unfolding(crate::specs::Solver::imposed, crate::specs::Comparisons::constraints_of))]
 pub fn impose<const N: usize>(z: &mut Zone<N>, k: Comparison) -> bool
     requires { T (comparison_fits (columns_of z.old) (comparison_of k)) }
     ensures answer { result ≡ is_some (imposed z.old (comparison_of k)) }
     ensures zone { z.new ≡ kept z.old (imposed z.old (comparison_of k)) }
 {
-    let added = added_to(k.right, k.number);
-    impose_nodes(
-        z,
-        Op::at(k.op),
-        usize::from(k.left) + 1,
-        usize::from(k.right),
-        added,
-    )
+    OverNodes::from(k).impose(z)
 }
 
 // Imposes a list of comparisons, one after the other, up to the first that leaves no row.

@@ -27,7 +27,7 @@ use Rattle.job.specs.contracts.Columns as declared_columns
 use Rattle.job.specs.contracts.Expression as expression
 use Rattle.job.proofs.Records.{Sized, SizedExpression, sized_columns, sized_expression}
 use Rattle.job.proofs.Declared.{width_is, bounds_are, extract_is, query_is}
-use Rattle.job.proofs.Counts.{used_fit, outputs_fit, clauses_fit, comparisons_fit, condition_is, tables_below}
+use Rattle.job.proofs.Counts.{outputs_fit, clauses_fit, comparisons_fit, condition_is, tables_below}
 use Rattle.zone.specs.Zone.{Zone, columns_of}
 use Rattle.solver.specs.Solver.{bounds_fit, box_of, imposed_all}
 use Rattle.solver.specs.Uses.{BoundsRoom}

@@ -1,7 +1,7 @@
--- `Zone::extend` meets its contract: the row is raised by the given values from the last to the first, as the definition recurses.
--- Assumes nothing.
+-- `Zone::extend` meets its contract: the row is raised by the given values, one after the other. Assumes nothing.
+use lib.ListN.{length}
 use Rattle.zone.proofs.Values.{Raising}
 use Rattle.zone.proofs.Zone.extend.Given as goal
 
-abbrev pub invariant-loop-k : goal.invariant-loop-k
-invariant-loop-k g l = Raising l.self l.ps l.vs l.k l.x
+abbrev pub invariant-loop-p : goal.invariant-loop-p
+invariant-loop-p g l = Raising l.self l.ps l.vs (length l.yielded) l.x
