@@ -39,7 +39,7 @@ module _ {z : Zone} {c : Constraint} {k : Choices} where
   ahead_in u = u.chosen.rest 0 (omega arith)
 
   pub ahead_asks : {q : ℕ} → LooksAhead z c k (q ∷ []) → LooksAfter z c (ways_in (clause_ways k q))
-  ahead_asks {q} u = record { way = u.chosen.way; allowed = u.allowed; ways = u.chosen.choices.each q (ahead_in u) }
+  ahead_asks {q} u = record { way = u.chosen.way; allowed = u.allowed; ways = u.chosen.choices q (ahead_in u) }
 
 -- what the look at clause q says
 abbrev pub breaks : Zone → Choices → ℕ → Bool

@@ -4,7 +4,7 @@ use mathlib.Core.List.{List, [], ◌∷◌, map}
 use Prim.Native.Nat.{ℕ, ◌+◌, ◌*◌, ◌<◌, ◌≤◌}
 use native.Mathlib.Numerals.{add-one}
 use native.Mathlib.Omega.{arith}
-use lib.ListN.{length, get_or, take, drop, set, length-set, length-map, drop_of_length-le}
+use lib.ListN.{length, get_or, drop, set, length-set, length-map, drop_of_length-le}
 use lib.Seq.{drop-cons, get_or-set_same, get_or-set_other, ext_get_or}
 use borrow.Author.Count.{below_more}
 use Rattle.base.proofs.Places.{map_at}
@@ -22,25 +22,25 @@ use Rattle.breaking.proofs.Sizes.{spare, four_choices, choice_at, choice_past}
 
 -- ---- The ways of a clause
 
--- the first `count` of a list are the ways of the first i comparisons, to which those of the others are still to be added
-pub record Putting (c : Clause) (i : ℕ) (list : List Constraint) (count : ℕ) : Type 0 where
-  pub few : count ≤ 2 * i
-  pub so_far : with_clause (take count list) (drop i c) ≡ ways_of c
+-- the ways of the first i comparisons, to which those of the others are still to be added
+pub record Putting (c : Clause) (i : ℕ) (w : Ways) : Type 0 where
+  pub few : w.count ≤ 2 * i
+  pub so_far : with_clause (ways_in w) (drop i c) ≡ ways_of c
 
-pub put_start : (c : Clause) (list : List Constraint) → Putting c 0 list 0
+pub put_start : (c : Clause) (list : List Constraint) → Putting c 0 (record { count = 0; list = list })
 unfolding ways_of
 put_start c list = record { few = omega arith; so_far = refl }
 
-module _ {c : Clause} {i : ℕ} {list : List Constraint} {count : ℕ} (s : Putting c i list count) where
-  pub put_end : length c ≤ i → take count list ≡ ways_of c
+module _ {c : Clause} {i : ℕ} {w : Ways} (s : Putting c i w) where
+  pub put_end : length c ≤ i → ways_in w ≡ ways_of c
   put_end past = rw (drop_of_length-le c past) at s.so_far
 
   -- the next comparison fails in the ways p: the first is added, and then the second, if there is one
-  pub put_turn : {p : Constraints} {k : _} (us : List Constraint) (m : ℕ) {vs : List Constraint} {n : ℕ} → Next c i k → p ≡ negations_of k
-      → take m us ≡ with_way (take count list) p.first → m ≤ count + 1
-      → take n vs ≡ with_second (take m us) p.second → n ≤ m + 1
-      → Putting c (i + 1) vs n
-  put_turn {k = k} us m next is one one_more two two_more = record {
+  pub put_turn : {p : Constraints} {k : _} (u : Ways) {v : Ways} → Next c i k → p ≡ negations_of k
+      → ways_in u ≡ with_way (ways_in w) p.first → u.count ≤ w.count + 1
+      → ways_in v ≡ with_second (ways_in u) p.second → v.count ≤ u.count + 1
+      → Putting c (i + 1) v
+  put_turn {k = k} u next is one one_more two two_more = record {
     few = omega (arith, s.few);
     so_far =
         let rest : drop i c ≡ k ∷ drop (i + 1) c = drop-cons c i (comparison_of no_comparison) next.0 ∙ rw (next.1, add-one i) in

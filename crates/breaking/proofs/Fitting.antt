@@ -26,7 +26,7 @@ use Rattle.breaking.specs.declared.Choices.{Choices}
 use Rattle.breaking.specs.Breaking.{ways_of, free, choices_of}
 use Rattle.breaking.specs.Places.{choices_in}
 use Rattle.zone.specs.Uses.{Joins}
-use Rattle.breaking.specs.Uses.{FewWays, ChoicesFit}
+use Rattle.breaking.specs.Uses.{ChoicesFit}
 use Rattle.breaking.proofs.Clauses.{choices_at}
 use Rattle.breaking.proofs.Once.{ways_each}
 use Rattle.breaking.proofs.Sizes.{spare, four_choices}
@@ -81,12 +81,8 @@ module _ (n : ℕ) where
 
 -- ---- In a record
 
-module _ (n : ℕ) (k : Condition) (few : length k ≤ 4) (fit : T (condition_fits n k))
-    (c : Choices) (short : FewWays c) (laid : choices_in c ≡ choices_of k) where
+module _ (n : ℕ) (k : Condition) (few : length k ≤ 4) (fit : T (condition_fits n k)) (c : Choices) (laid : choices_in c ≡ choices_of k) where
   pub choices_fit : ChoicesFit (n + 1) c
-  choices_fit = record {
-    few = short;
-    each = λ q h.
-        let clause = element (choices_of k) q [] (omega (arith, four_choices k few)) in
-        rw (← choices_at c q, laid, add-one n) (every_way_fits n k fit (get_or (choices_of k) q []) clause);
-  }
+  choices_fit q h =
+      let clause = element (choices_of k) q [] (omega (arith, four_choices k few)) in
+      rw (← choices_at c q, laid, add-one n) (every_way_fits n k fit (get_or (choices_of k) q []) clause)

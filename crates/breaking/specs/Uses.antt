@@ -1,17 +1,11 @@
 -- What the functions ask of their callers, all of which is code of this repository.
 use Rattle.std.specs.Prelude.{List, ℕ, ◌<◌, ◌≤◌, length, T}
 use Rattle.base.specs.Lists.{◌∈◌, at}
-use Rattle.job.specs.declared.Clause.{Clause}
 use Rattle.zone.specs.declared.Constraint.{Constraint}
 use Rattle.zone.specs.Zone.{Zone, allows}
 use Rattle.zone.specs.Uses.{Joins}
 use Rattle.breaking.specs.declared.Choices.{Choices}
 use Rattle.breaking.specs.Places.{ways_in, clause_ways}
-
--- a clause of at most six comparisons, and room for their ways
-pub record PutsWays (list : List Constraint) (c : Clause) : Type 0 where
-  pub small : c.size ≤ 6
-  pub room : 12 ≤ length list
 
 -- ways between n nodes
 abbrev pub WaysFit : ℕ → List Constraint → Type 0
@@ -21,10 +15,9 @@ WaysFit n ws = (c : Constraint) → c ∈ ws → Joins n c
 abbrev pub FewWays : Choices → Type 0
 FewWays k = (q : ℕ) → q < 4 → (clause_ways k q).count ≤ 12
 
--- and each of them is between n nodes
-pub record ChoicesFit (n : ℕ) (k : Choices) : Type 0 where
-  pub few : FewWays k
-  pub each : (q : ℕ) → q < 4 → WaysFit n (ways_in (clause_ways k q))
+-- the ways of each of four clauses are between n nodes
+abbrev pub ChoicesFit : ℕ → Choices → Type 0
+ChoicesFit n k = (q : ℕ) → q < 4 → WaysFit n (ways_in (clause_ways k q))
 
 -- a zone with a constraint that some row of it obeys, and ways that are looked at after it
 pub record LooksAfter (z : Zone) (c : Constraint) (ws : List Constraint) : Type 0 where

@@ -2,7 +2,7 @@
 // still to be broken.
 #![tactic(auto)]
 
-ghost use Rattle.std.specs.Prelude.{◌≡◌, [], ◌∷◌, ◌+◌, ◌<◌, ◌≤◌, length, take};
+ghost use Rattle.std.specs.Prelude.{◌≡◌, [], ◌∷◌, ◌+◌, ◌<◌, ◌≤◌, length};
 ghost use Rattle.base.specs.Lists.{all_of};
 ghost use Rattle.base.specs.Options.{is_some};
 ghost use Rattle.job.specs.Meaning.{clause_of, condition_of};
@@ -12,7 +12,7 @@ ghost use Rattle.conditions.specs.Meeting.{Lies};
 ghost use Rattle.conditions.specs.Uses.{Small};
 ghost use Rattle.breaking.specs.Breaking.{with_way, ways_of, choices_of, breakable, chosen};
 ghost use Rattle.breaking.specs.Places.{ways_in, clause_ways, choices_in, in_order};
-ghost use Rattle.breaking.specs.Uses.{FewWays, PutsWays, LooksAfter, LooksAhead, Chooses};
+ghost use Rattle.breaking.specs.Uses.{FewWays, LooksAfter, LooksAhead, Chooses};
 
 use job::{Clause, Condition, Job};
 use zone::{Constraint, Zone};
@@ -43,43 +43,40 @@ const FREE: Constraint = Constraint {
 };
 
 impl Ways {
-    // Those that count.
+    // Those that count. No more count than the array holds, whatever the count says.
     pub fn as_slice(&self) -> &[Constraint]
-        requires { self.now.count ≤ 12 }
         ensures { result.now ≡ ways_in self.now }
     {
-        &self.list[..self.count]
+        &self.list[..self.count.min(2 * Job::COMPARISONS)]
     }
-}
 
-// Adds a way to `count` others, unless it is one of them.
-fn put_way(list: &mut [Constraint], count: usize, c: Constraint) -> usize
-    requires { count < length list.old }
-    ensures ways { take result list.new ≡ with_way (take count list.old) c }
-    ensures few { result ≤ count + 1 }
-{
-    if list[..count].contains(&c) {
-        return count;
-    }
-    list[count] = c;
-    count + 1
-}
-
-// The ways in which a clause is broken, and how many there are.
-fn put_ways(list: &mut [Constraint], c: &Clause) -> usize
-    requires { PutsWays list.old c.now }
-    ensures ways { take result list.new ≡ ways_of (clause_of c.now) }
-    ensures few { result ≤ 12 }
-{
-    let mut count = 0;
-    for k in &c.comparisons[..c.size] {
-        let p = solver::negations(*k);
-        count = put_way(&mut *list, count, p.first);
-        if let Some(second) = p.second {
-            count = put_way(&mut *list, count, second);
+    // Adds a way, unless it is one of them.
+    fn put(&mut self, c: Constraint)
+        requires { self.old.count < 12 }
+        ensures ways { ways_in self.new ≡ with_way (ways_in self.old) c }
+        ensures few { self.new.count ≤ self.old.count + 1 }
+    {
+        if !self.as_slice().contains(&c) {
+            self.list[self.count] = c;
+            self.count += 1;
         }
     }
-    count
+
+    // The ways in which a clause is broken, in place of others.
+    fn set(&mut self, c: &Clause)
+        requires { c.now.size ≤ 6 }
+        ensures ways { ways_in self.new ≡ ways_of (clause_of c.now) }
+        ensures few { self.new.count ≤ 12 }
+    {
+        self.count = 0;
+        for k in &c.comparisons[..c.size] {
+            let p = solver::negations(*k);
+            self.put(p.first);
+            if let Some(second) = p.second {
+                self.put(second);
+            }
+        }
+    }
 }
 
 // Puts the ways in which the clauses of a condition are broken in place of others.
@@ -93,13 +90,13 @@ pub fn put_choices(k: &Condition, choices: &mut Choices)
     // as a slice, whose length is known
     let clauses: &[Clause] = &k.clauses;
     choices.clauses = k.size;
-    for q in 0..Job::CLAUSES {
-        let ways = &mut choices.ways[q];
-        ways.count = if q < k.size {
-            put_ways(&mut ways.list, &clauses[q])
+    for (q, ways) in choices.ways.iter_mut().enumerate() {
+        if q < k.size {
+            ways.set(&clauses[q]);
         } else {
-            put_way(&mut ways.list, 0, FREE)
-        };
+            ways.count = 0;
+            ways.put(FREE);
+        }
     }
 }
 

@@ -46,9 +46,6 @@ ordered k o = in_order o (choices_in k)
 abbrev pub level : Choices → List ℕ → ℕ → List Constraint
 level k o j = ways_in (clause_ways k (at o j))
 
-pub level_small : {n : ℕ} {k : Choices} {o : List ℕ} → Ready n k o → (j : ℕ) → j < 4 → (clause_ways k (at o j)).count ≤ 12
-level_small {o = o} ready j h = ready.fit.few (at o j) (ready.order.below j h)
-
 -- what comes of one way of clause j: rows of the zone that also break the later clauses, or none
 abbrev pub tried : List (List Constraint) → ℕ → Zone → Constraint → Option Zone
 tried ks j z c = and_then (chosen z c (drop (suc j) ks)) (λ y. broken y (drop (suc j) ks))
@@ -91,7 +88,7 @@ module _ {n : ℕ} {k : Choices} {o : List ℕ} {goal : Option Zone} {j : ℕ} {
   ks = ordered k o
 
   fits : WaysFit n (level k o j)
-  fits = l.ready.fit.each (at o j) (l.ready.order.below j l.in_four)
+  fits = l.ready.fit (at o j) (l.ready.order.below j l.in_four)
 
   -- the numbers of the later clauses, as the code cuts them from an array of four
   abbrev ns : List ℕ

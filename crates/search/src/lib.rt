@@ -45,8 +45,8 @@ fn weigh<const N: usize>(z: &Zone<N>, k: &Choices) -> [usize; Job::CLAUSES]
     ensures { result ≡ weights z.now k.now.clauses (choices_in k.now) }
 {
     let mut weights = [HEAVIEST; Job::CLAUSES];
-    for q in 0..k.clauses {
-        weights[q] = count_allowed(z, k.ways[q].as_slice());
+    for (q, weight) in weights[..k.clauses].iter_mut().enumerate() {
+        *weight = count_allowed(z, k.ways[q].as_slice());
     }
     weights
 }
@@ -149,7 +149,8 @@ fn broken<const N: usize>(
 }
 
 // Some rows of a zone that meet both conditions and break every clause of another, or none. Document 01 has labelled loops here, as in
-// `broken`, and no function that takes what is done with a pair of clauses.
+// `broken`, and no function that takes what is done with a pair of clauses. The zone and the two conditions are no struct, here and in twins:
+// each search has others of them, and its contract names each.
 pub fn outside<const N: usize>(
     z: &Zone<N>,
     a: &Condition,

@@ -15,7 +15,6 @@ use Rattle.conditions.proofs.Meeting.{Ends}
 use Rattle.breaking.specs.declared.Choices.{Choices}
 use Rattle.breaking.specs.Breaking.{choices_of}
 use Rattle.breaking.specs.Places.{choices_in}
-use Rattle.breaking.specs.Uses.{FewWays}
 use Rattle.breaking.proofs.Sizes.{small_from}
 use Rattle.breaking.proofs.Fitting.{choices_fit}
 use Rattle.search.specs.Search.{outside}
@@ -37,14 +36,14 @@ always_fits n = record { small = record { clauses = omega arith; comparisons = e
 -- c are the choices that were laid for the condition k
 module _ (z : Zone) {k : Condition} (fits : ConditionFits (columns_of z) k) (c : Choices) (laid : choices_in c ≡ choices_of (condition_of k))
     (size : c.clauses ≡ length (condition_of k)) where
-  pub outside_asks : FewWays c → {a b : Condition} → FindsOne z a b → SearchesOutside z a b c
-  outside_asks short finds =
+  pub outside_asks : {a b : Condition} → FindsOne z a b → SearchesOutside z a b c
+  outside_asks finds =
       let few = (small_from k fits.small).0 in
       let nodes : columns_of z + 1 ≡ length z = omega (arith, finds.some_node) in
       record {
         searches = finds.searches;
         weighs = record {
-          choices = rw nodes at (choices_fit (columns_of z) (condition_of k) few fits.fit c short laid);
+          choices = rw nodes at (choices_fit (columns_of z) (condition_of k) few fits.fit c laid);
           few = omega (arith, size, few);
         };
       }

@@ -1,4 +1,4 @@
-use mathlib.Core.Path.{◌≡◌, refl, ap, sym, ◌∙◌}
+use mathlib.Core.Path.{◌≡◌, ap, sym, ◌∙◌}
 use native.Mathlib.Omega.{arith}
 use borrow.Author.Rules.{rules}
 use Prim.Native.Nat.{◌<◌}
@@ -6,43 +6,36 @@ use lib.ListN.{length, length-map}
 use Rattle.job.specs.Meaning.{clause_of, condition_of}
 use Rattle.conditions.proofs.Clauses.{condition_length, items, item_is, item_of}
 use Rattle.breaking.specs.Breaking.{ways_of}
-use Rattle.breaking.proofs.Filling.{lay_start, lay_clause, lay_spare, lay_end}
+use Rattle.breaking.proofs.Filling.{lay_clause, lay_spare, lay_end}
 use Rattle.breaking.proofs.put_choices.Goals as goal
 use Rattle.breaking.proofs.put_choices.Goals.{then-q-k, else-q-k}
 
-pub loop-q-init : goal.loop-q-init
-loop-q-init c = record { clauses = refl; ways = lay_start _ _ (search rules) }
-
-pub put_ways-ways-requires : goal.put_ways-ways-requires
-put_ways-ways-requires c = record { small = c.requires.comparisons c.loop-q.q c.loop-q-test.true; room = search rules }
+pub set-requires : goal.set-requires
+set-requires c = c.requires.comparisons c.loop-q.q (omega (arith, c.if-q-k.true, c.requires.clauses))
 
 pub loop-q-preserved : goal.loop-q-preserved
 loop-q-preserved c =
     let four : length c.args.k.now.clauses ≡ 4 = search rules in
     let few = c.requires.clauses in
-    let size : length (condition_of c.args.k.now) ≡ c.args.k.now.size = condition_length c.args.k.now (omega arith) in record {
-      clauses = c.loop-q.invariant.clauses;
-      ways = elim c.if-q-k.branch [
-        | then-q-k w ↦
-            let there : c.loop-q.q < length (items c.args.k.now) = rw (sym (length-map (items c.args.k.now) clause_of)) (omega arith) in
-            lay_clause c.loop-q.invariant.ways _ c.loop-q-test.true (omega arith)
-            (rw (w.ways2-is, w.ways-is) (w.put_ways-ways.ensures.ways
-            ∙ ap ways_of (ap clause_of (sym (item_is c.args.k.now c.loop-q.q there)) ∙ sym (item_of c.args.k.now c.loop-q.q there))))
-            (omega arith)
-        | else-q-k w ↦
-            lay_spare c.loop-q.invariant.ways _ c.loop-q-test.true (omega arith)
-            (rw (w.ways2-is, w.ways-is) w.put_way-ways.ensures.ways)
-            (omega arith)
-      ];
-    }
+    let size : length (condition_of c.args.k.now) ≡ c.args.k.now.size = condition_length c.args.k.now (omega arith) in
+    let more : c.loop-q.q < 4 = omega (arith, c.loop-q-test.true, c.loop-q.invariant.four) in
+    elim c.if-q-k.branch [
+      | then-q-k w ↦
+          let there : c.loop-q.q < length (items c.args.k.now) = rw (sym (length-map (items c.args.k.now) clause_of)) (omega arith) in
+          rw w.ways-items-is (lay_clause c.loop-q.invariant _ more (omega arith)
+          (w.set.ensures.ways ∙ ap ways_of (ap clause_of (sym (item_is c.args.k.now c.loop-q.q there)) ∙ sym (item_of c.args.k.now c.loop-q.q there)))
+          w.set.ensures.few)
+      | else-q-k w ↦ rw w.ways-items-is (lay_spare c.loop-q.invariant _ more (omega arith) w.put.ensures.ways (omega (arith, w.put.ensures.few)))
+    ]
 
-pub returns : goal.returns
-returns c =
+pub returns-clause-ways : goal.returns-clause-ways
+returns-clause-ways c =
     let four : length c.args.k.now.clauses ≡ 4 = search rules in
     let few = c.requires.clauses in
-    let size : length (condition_of c.args.k.now) ≡ c.args.k.now.size = condition_length c.args.k.now (omega arith) in record {
-      ways = lay_end c.loop-q.invariant.ways _ c.loop-q-test.false (omega arith);
-      clauses = c.loop-q.invariant.clauses;
-      size = c.loop-q.invariant.clauses ∙ sym size;
-      few = λ q h. c.loop-q.invariant.ways.few q (omega arith);
-    }
+    let size : length (condition_of c.args.k.now) ≡ c.args.k.now.size = condition_length c.args.k.now (omega arith) in
+    lay_end c.loop-q.invariant _ (omega (arith, c.loop-q-test.false, c.loop-q.invariant.four)) (omega arith)
+
+pub returns-clause-size : goal.returns-clause-size
+returns-clause-size c =
+    let four : length c.args.k.now.clauses ≡ 4 = search rules in
+    sym (condition_length c.args.k.now (omega (arith, c.requires.clauses)))

@@ -1,8 +1,7 @@
 -- `breaking::put_choices` meets its contract: the ways of one clause more with each turn. Assumes nothing.
-use mathlib.Core.Path.{◌≡◌}
 use Rattle.job.specs.Meaning.{condition_of}
 use Rattle.breaking.proofs.Filling.{Laying}
 use Rattle.breaking.proofs.put_choices.Given as goal
 
 abbrev pub invariant-loop-q : goal.invariant-loop-q
-invariant-loop-q l = record { clauses : l.choices.clauses ≡ l.k.size; ways : Laying (condition_of l.k) l.q l.choices.ways }
+invariant-loop-q l = Laying (condition_of l.k) l.q l.ways-items

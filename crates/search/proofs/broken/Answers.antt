@@ -2,7 +2,7 @@ use borrow.Author.Rules.{rules}
 use native.Mathlib.Omega.{arith}
 use mathlib.Core.Path.{refl, sym, ◌∙◌}
 use Rattle.conditions.proofs.Meeting.{Ends, ends_none}
-use Rattle.search.proofs.Levels.{ready_by, level_small, level_start, level_end, level_asks, turn_down, turn_barren, turn_shut, turn_ends, order_four, search_is}
+use Rattle.search.proofs.Levels.{ready_by, level_start, level_end, level_asks, turn_down, turn_barren, turn_shut, turn_ends, order_four, search_is}
 use Rattle.search.proofs.broken.Goals as goal
 use Rattle.search.proofs.broken.Goals.{else-choose, else-choose-2, else-choose-3, then-choose+else-two-test, then-choose-2+else-three-test, then-choose-3+else-four-test}
 
@@ -15,19 +15,11 @@ offset_bounds-k-order g c = omega (arith, (order_four _ c.order_by-order.ensures
 pub bounds-k-order : goal.bounds-k-order
 bounds-k-order g c = (order_four _ c.order_by-order.ensures).below 0 (omega arith)
 
-pub as_slice-one-requires : goal.as_slice-one-requires
-as_slice-one-requires g c =
-    level_small (ready_by _ c.requires.choices c.order_by-order.ensures) 0 (omega arith)
-
 pub offset_bounds-k-order-2 : goal.offset_bounds-k-order-2
 offset_bounds-k-order-2 g c = omega (arith, (order_four _ c.order_by-order.ensures).below 1 (omega arith))
 
 pub bounds-k-order-2 : goal.bounds-k-order-2
 bounds-k-order-2 g c = (order_four _ c.order_by-order.ensures).below 1 (omega arith)
-
-pub as_slice-two-requires : goal.as_slice-two-requires
-as_slice-two-requires g c =
-    level_small (ready_by _ c.requires.choices c.order_by-order.ensures) 1 (omega arith)
 
 pub offset_bounds-k-order-3 : goal.offset_bounds-k-order-3
 offset_bounds-k-order-3 g c = omega (arith, (order_four _ c.order_by-order.ensures).below 2 (omega arith))
@@ -35,19 +27,11 @@ offset_bounds-k-order-3 g c = omega (arith, (order_four _ c.order_by-order.ensur
 pub bounds-k-order-3 : goal.bounds-k-order-3
 bounds-k-order-3 g c = (order_four _ c.order_by-order.ensures).below 2 (omega arith)
 
-pub as_slice-three-requires : goal.as_slice-three-requires
-as_slice-three-requires g c =
-    level_small (ready_by _ c.requires.choices c.order_by-order.ensures) 2 (omega arith)
-
 pub offset_bounds-k-order-4 : goal.offset_bounds-k-order-4
 offset_bounds-k-order-4 g c = omega (arith, (order_four _ c.order_by-order.ensures).below 3 (omega arith))
 
 pub bounds-k-order-4 : goal.bounds-k-order-4
 bounds-k-order-4 g c = (order_four _ c.order_by-order.ensures).below 3 (omega arith)
-
-pub as_slice-four-requires : goal.as_slice-four-requires
-as_slice-four-requires g c =
-    level_small (ready_by _ c.requires.choices c.order_by-order.ensures) 3 (omega arith)
 
 pub one-init : goal.one-init
 one-init g c =

@@ -25,7 +25,7 @@ outside-requires g c =
       search rules,
       (
         search rules,
-        outside_asks _ c.requires.searches.first c.put_choices.new.choices put.ways put.size put.few
+        outside_asks _ c.requires.searches.first c.put_choices.new.choices put.ways put.size
             (record {
               some_node = c.requires.some_node;
               searches = record { first = rw c.always-always.ensures (always_fits _); second = c.requires.searches.second };

@@ -16,7 +16,7 @@ use Rattle.verdict.proofs.find_two.Goals.{Else-outside}
 pub outside-requires : goal.outside-requires
 outside-requires g c =
     let put = c.put_choices.ensures in
-    (search rules, (search rules, outside_asks _ c.requires.third c.put_choices.new.choices put.ways put.size put.few c.requires.finds))
+    (search rules, (search rules, outside_asks _ c.requires.third c.put_choices.new.choices put.ways put.size c.requires.finds))
 
 pub returns-then-outside : goal.returns-then-outside
 returns-then-outside g c =

@@ -1,11 +1,8 @@
 use borrow.Author.Rules.{rules}
 use mathlib.Core.Path.{ap, ◌∙◌}
 use Rattle.breaking.specs.Breaking.{breakable}
-use Rattle.breaking.proofs.Ahead.{ahead_in, ahead_asks}
+use Rattle.breaking.proofs.Ahead.{ahead_asks}
 use Rattle.breaking.proofs.fn.open_after.all.Goals as goal
-
-pub as_slice-requires : goal.as_slice-requires
-as_slice-requires g c = c.requires.chosen.choices.few _ (ahead_in c.requires)
 
 pub breakable_after-requires : goal.breakable_after-requires
 breakable_after-requires g c = (search rules, rw c.as_slice.ensures (ahead_asks c.requires))

@@ -1,8 +1,0 @@
--- `breaking::put_ways` meets its contract: the ways of one comparison more with each turn. Assumes nothing.
-use mathlib.Core.List.{map}
-use Rattle.job.specs.Meaning.{comparison_of}
-use Rattle.breaking.proofs.Filling.{Putting}
-use Rattle.breaking.proofs.put_ways.Given as goal
-
-abbrev pub invariant-loop-k : goal.invariant-loop-k
-invariant-loop-k l = Putting (map comparison_of l.k-items) l.k-index l.list l.count
