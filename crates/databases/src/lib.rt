@@ -66,12 +66,11 @@ fn both_use(e: &Expression, f: &Expression, t: u8) -> bool
 fn present(e: &Expression, f: &Expression) -> [bool; Job::TABLES]
     ensures { result ≡ present_in (expression_of e.now) (expression_of f.now) }
 {
-    [
-        both_use(e, f, 0),
-        both_use(e, f, 1),
-        both_use(e, f, 2),
-        both_use(e, f, 3),
-    ]
+    let mut present = [false; Job::TABLES];
+    for (t, both) in present.iter_mut().enumerate() {
+        *both = both_use(e, f, t as u8);
+    }
+    present
 }
 
 // A row's values in the tables that are present.
@@ -221,8 +220,8 @@ pub fn listing_of(
     ensures { map number_of_held result ≡ listed_by k.now extract.now marks }
 {
     let mut listing = [Held::NotUsed; Job::COLUMNS];
-    for c in 0..k.width {
-        listing[c] = listed(k, extract, marks, c);
+    for (c, held) in listing[..k.width].iter_mut().enumerate() {
+        *held = listed(k, extract, marks, c);
     }
     listing
 }
