@@ -38,8 +38,8 @@ fn put_verdict(output: &mut impl Write, v: Verdict) -> Result<()> {
     for (c, held) in v.listing.iter().enumerate() {
         out[1 + c] = u8::from(*held);
     }
-    put_database(v.first, &mut out[17..85]);
-    put_database(v.second, &mut out[85..]);
+    put_database(v.databases.first, &mut out[17..85]);
+    put_database(v.databases.second, &mut out[85..]);
     output.write_all(&out)
 }
 

@@ -59,7 +59,7 @@ pub fn write(job: Job, out: &mut [u8]) -> Result<usize, Refusal>
 pub fn decide(job: Job) -> Result<Verdict, Refusal>
     ensures kind { kind_in result ≡ decision_of job }
     ensures listing { IfOk result (λ v. map number_of_held v.listing ≡ listing_record job.declared job.extract job.query) }
-    ensures databases { IfOk result (λ v. HandsOut job.declared job.extract job.query v.first v.second) }
+    ensures databases { IfOk result (λ v. HandsOut job.declared job.extract job.query v.databases.first v.databases.second) }
 {
     write_if_read(job, &mut [0u8; writer::MAX_JOB_BYTES])?;
     Ok(verdict::decide(job.declared, job.extract, job.query))

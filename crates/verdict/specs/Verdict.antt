@@ -27,4 +27,4 @@ pub record HandsOut (k : Columns) (extract query : Expression) (d f : Database) 
 pub record IsVerdict (k : Columns) (extract query : Expression) (v : Verdict) : Type 0 where
   pub kind : number_of_kind v.kind ≡ kind_of (job_of k extract query)
   pub listing : map number_of_held v.listing ≡ listing_record k extract query
-  pub databases : HandsOut k extract query v.first v.second
+  pub databases : HandsOut k extract query v.databases.first v.databases.second

@@ -12,7 +12,7 @@ ghost use Rattle.verdict.specs.Verdict.{IsVerdict};
 ghost use Rattle.verdict.specs.Uses.{FindsOne, FindsTwo, Given, DecidesSized};
 
 use breaking::Choices;
-use databases::Database;
+use databases::Pair;
 use job::{Columns, Condition, Expression, Job};
 use model::{Held, Kind};
 use search::Scratch;
@@ -86,8 +86,7 @@ fn find_two<const N: usize>(
 pub struct Verdict {
     pub kind: Kind,
     pub listing: [Held; Job::COLUMNS],
-    pub first: Database,
-    pub second: Database,
+    pub databases: Pair,
 }
 
 // Decides in zones of so many entries. Columns, extract and query stay three, as in a job's record: a contract names one or two of them as
@@ -147,8 +146,7 @@ fn decide_sized<const N: usize>(
     Verdict {
         kind,
         listing: databases::listing_of(&k, &extract, marks),
-        first: pair.first,
-        second: pair.second,
+        databases: pair,
     }
 }
 
