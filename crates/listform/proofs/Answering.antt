@@ -1,38 +1,21 @@
 -- The answer, from what was found and a row. Assumes nothing.
-use mathlib.Core.Path.{◌≡◌, refl, sym, ◌∙◌}
-use mathlib.Core.Logic.{◌⊎◌, inl, inr}
-use mathlib.Core.Bool.{Bool, true, false, cond}
+use mathlib.Core.Path.{◌≡◌, sym, ◌∙◌}
+use mathlib.Core.Bool.{cond}
 use mathlib.Core.List.{List, ◌∷◌, ◌++◌}
-use Prim.Native.Nat.{ℕ, ◌+◌, ◌*◌, ◌≤◌}
+use Prim.Native.Nat.{ℕ}
 use native.Mathlib.Omega.{arith}
 use lib.ListN.{length, take, replicate}
 use lib.Seq.{length-take-le, take_at}
 use lib.IntN.{ℤ, pos}
 use Rattle.std.proofs.lemmas.List.{take-replicate}
 use Rattle.base.specs.Lists.{flat_map}
-use Rattle.base.specs.Options.{is_some}
 use Rattle.words.specs.Word.{encoded}
 use Rattle.model.specs.declared.Bounds.{Bounds}
 use Rattle.job.specs.declared.Comparison.{Comparison}
 use Rattle.solver.specs.Lists.{row_or_zeros}
-use Rattle.listform.specs.Form.{is_list, least, number_of_found, found_in, row_for, written, count_of}
+use Rattle.listform.specs.Form.{is_list, least, number_of_found, found_in, row_for, written}
 use Rattle.listform.specs.declared.Found.{Found}
-use Rattle.listform.specs.declared.Found.TheVariants.{Unmet, Met, NoList}
 use Rattle.listform.specs.Uses.{Room}
-
--- how many bytes an answer has, by what is found
-abbrev counted : Found → ℕ → ℕ
-counted NoList n = 1
-counted f n = n * 4 + 1
-
-counted_is : (n m : ℕ) (s : List ℕ) → counted (found_in n m s) n ≡ count_of n m s
-unfolding found_in count_of
-counted_is n m s = go (is_list n m s) (is_some (least n m s))
-  where
-    go : (b c : Bool) → counted (cond b (cond c Met Unmet) NoList) n ≡ cond b (n * 4 + 1) 1
-    go true true = refl
-    go true false = refl
-    go false c = refl
 
 -- `solve` has the first n and m places of the arrays; `found` is what it says, and `row` what it leaves
 module _ (n m : ℕ) (s : List ℕ) {out : List ℕ} (u : Room n m s out) (b : Bounds) (k : Comparison) where
@@ -52,16 +35,6 @@ module _ (n m : ℕ) (s : List ℕ) {out : List ℕ} (u : Room n m s out) (b : B
     found_is : found_in n m s ≡ found
     found_is = sym (e ∙ rw (w_is, h_is))
 
-    count : counted found n ≡ count_of n m s
-    count = rw (← found_is) (counted_is n m s)
-
-    pub none_count : found ≡ NoList → 1 ≡ count_of n m s
-    none_count is = rw is at count
-
-    pub list_count : (found ≡ Unmet) ⊎ (found ≡ Met) → n * 4 + 1 ≡ count_of n m s
-    list_count (inl is) = rw is at count
-    list_count (inr is) = rw is at count
-
     -- the row stands in the first places of an array, and is put behind the number
     module _ {row : List ℤ} (rest : List ℤ) (same : length row ≡ length (take n (replicate 32 (pos 0))))
         (f : row ≡ cond (is_list w h s) (row_or_zeros w (least w h s)) (take n (replicate 32 (pos 0)))) where
@@ -72,11 +45,3 @@ module _ (n m : ℕ) (s : List ℕ) {out : List ℕ} (u : Room n m s out) (b : B
       pub bytes : number_of_found found ∷ flat_map (take n (row ++ rest)) (encoded 4) ≡ written n m s
       unfolding written row_for
       bytes = rw (row_is, found_is)
-
-pub count_fits : (n m : ℕ) (s : List ℕ) (r : ℕ) → r ≡ count_of n m s → r ≤ n * 4 + 1
-unfolding count_of
-count_fits n m s r e = go (is_list n m s) e
-  where
-    go : (b : Bool) → r ≡ cond b (n * 4 + 1) 1 → r ≤ n * 4 + 1
-    go true e = omega arith
-    go false e = omega arith

@@ -67,9 +67,6 @@ number_of_found NoList = 2
 unfoldable pub row_for : ℕ → ℕ → List ℕ → List ℤ
 row_for n m s = cond (is_list n m s) (row_or_zeros n (least n m s)) (replicate n (pos 0))
 
--- the bytes that are written, and how many of them are the answer: of what is no list the first alone
+-- the bytes that are written; of what is no list the first alone is the answer
 unfoldable pub written : ℕ → ℕ → List ℕ → List ℕ
 written n m s = number_of_found (found_in n m s) ∷ flat_map (row_for n m s) (encoded 4)
-
-unfoldable pub count_of : ℕ → ℕ → List ℕ → ℕ
-count_of n m s = cond (is_list n m s) (n * 4 + 1) 1

@@ -18,13 +18,11 @@ ghost use Rattle.listform.specs.Form.{
   number_of_found,
   found_in,
   written,
-  count_of,
 };
 ghost use Rattle.listform.specs.Uses.{Rooms, SolveRooms, Room};
 
 use job::Comparison;
 use model::Bounds;
-use words::Op;
 
 // The most columns and comparisons of a list, the bytes that these take, and those of an answer.
 pub const COLUMNS: usize = 32;
@@ -78,7 +76,8 @@ fn first_comparison(s: &[u8]) -> Comparison
     }
 }
 
-// Reads the bounds and the comparisons of a list; the slices are as long as it has columns and comparisons.
+// Reads the bounds and the comparisons of a list; the slices are as long as it has columns and comparisons. They are two here and below, as
+// what is read and what is solved has them: one struct would lend them to be written, and another to be read.
 fn decode(s: &[u8], bounds: &mut [Bounds], list: &mut [Comparison])
     requires { Rooms s.now bounds.old list.old }
     ensures bounds { bounds.new ≡ bounds_in (length bounds.old) s.now }
@@ -105,9 +104,7 @@ fn among(n: usize, list: &[Comparison]) -> bool
     requires { n ≤ 32 }
     ensures { result ≡ among n list.now }
 {
-    list.iter().all(|k| k.op <= u8::from(Op::More)
-        && usize::from(k.left) < n
-        && usize::from(k.right) <= n)
+    list.iter().all(|k| words::is_op(k.op) && usize::from(k.left) < n && usize::from(k.right) <= n)
 }
 
 // Whether these are bounds and comparisons of a list.
@@ -147,10 +144,11 @@ fn put(first: u8, row: &[i32], out: &mut [u8])
     }
 }
 
-// Answers a list of n columns and m comparisons, and says how many bytes the answer has. A caller has read n and m, which come first.
-pub fn answer(n: usize, m: usize, s: &[u8], out: &mut [u8]) -> usize
+// Answers a list of n columns and m comparisons, and says what was found. A caller has read n and m, which come first. The answer is all of
+// `out`, but of bytes that are no list the first byte alone.
+pub fn answer(n: usize, m: usize, s: &[u8], out: &mut [u8]) -> Found
     requires { Room n m s.now out.old }
-    ensures count { result ≡ count_of n m s.now }
+    ensures found { result ≡ found_in n m s.now }
     ensures bytes { out.new ≡ written n m s.now }
 {
     let mut bounds = [Bounds::default(); COLUMNS];
@@ -158,8 +156,5 @@ pub fn answer(n: usize, m: usize, s: &[u8], out: &mut [u8]) -> usize
     let mut row = [0i32; COLUMNS];
     let found = solve(s, &mut bounds[..n], &mut list[..m], &mut row[..n]);
     put(u8::from(found), &row[..n], out);
-    match found {
-        Found::NoList => 1,
-        Found::Unmet | Found::Met => out.len(),
-    }
+    found
 }

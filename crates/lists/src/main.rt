@@ -13,12 +13,14 @@ ghost use Rattle.std.specs.Prelude.{◌<◌};
 ghost use Rattle.listform.specs.Uses.{Room};
 
 use listform::Found;
-use std::io::{ErrorKind, Read, Result, Write};
+use std::io::{Error, ErrorKind, Read, Result, Write};
 
-// Answers bytes that are no list. An error says that no further list may follow: here that these were none, else that a call failed.
-fn refuse(output: &mut impl Write) -> Result<()> {
-    output.write_all(&[u8::from(Found::NoList)])?;
-    Err(ErrorKind::InvalidData.into())
+// Answers bytes that are no list. No further list may follow, as the error says: these were none, or a call failed.
+fn refuse(output: &mut impl Write) -> Error {
+    match output.write_all(&[u8::from(Found::NoList)]) {
+        Ok(()) => ErrorKind::InvalidData.into(),
+        Err(e) => e,
+    }
 }
 
 // Reads a list of n columns and m comparisons into s, which it fills, and answers it.
@@ -33,14 +35,12 @@ fn answer_list<R: Read, W: Write>(
     requires { Room n m s.old out.old }
 {
     if input.read_exact(s).is_err() {
-        return refuse(output);
+        return Err(refuse(output));
     }
-    let count = listform::answer(n, m, s, out);
-    output.write_all(&out[..count])?;
-    if out[0] == u8::from(Found::NoList) {
-        return Err(ErrorKind::InvalidData.into());
+    match listform::answer(n, m, s, out) {
+        Found::NoList => Err(refuse(output)),
+        Found::Unmet | Found::Met => output.write_all(out),
     }
-    Ok(())
 }
 
 fn next_byte(input: &mut impl Read) -> Result<u8> {
@@ -53,11 +53,11 @@ fn next_list<R: Read, W: Write>(input: &mut R, output: &mut W) -> Result<()> {
     // The first byte is read alone: an input that ends before it ends between two lists, and within one after it.
     let n = usize::from(next_byte(input)?);
     let Ok(comparisons) = next_byte(input) else {
-        return refuse(output);
+        return Err(refuse(output));
     };
     let m = usize::from(comparisons);
     if n == 0 || listform::COLUMNS < n {
-        return refuse(output);
+        return Err(refuse(output));
     }
     let size = n * 8 + m * 7;
     let room = n * 4 + 1;
