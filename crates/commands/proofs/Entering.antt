@@ -15,10 +15,10 @@ use Rattle.job.proofs.Meaning.{meaning_record}
 use Rattle.layout.specs.declared.Command.{Command}
 use Rattle.layout.specs.declared.Fault.{Fault}
 use Rattle.layout.specs.Faults.{fault_of}
-use Rattle.layout.specs.Commands.{Entry, command_of, operands, entry_at}
+use Rattle.layout.specs.Commands.{number_of_command, Entry, command_of, operands, entry_at}
 use Rattle.layout.specs.Reading.{State, Step, next, current, in_ranges, op_known, declared, is_new, after, check, taken, step_of}
 use Rattle.layout.specs.Sound.{Sound}
-use Rattle.layout.proofs.Given.{byte_of, byte_is}
+use Rattle.layout.proofs.Given.{command_back, byte_is}
 use Rattle.layout.proofs.Keeps.{step_sound}
 use Rattle.commands.specs.declared.Addition.{Addition}
 use Rattle.commands.specs.Reached.{Reached, state_of, Held}
@@ -113,13 +113,15 @@ module _ (s : List ℕ) (p : Reached) (c : Command) (ready : Ready s p c) where
       entered n z m o = let place : at + (1 + n) ≡ at + 1 + operands c = omega (arith, m) in rw (went, o, place, state_is)
 
 -- ---- a command by its byte
-module _ (b n : ℕ) (c d : Command) (e : command_of b ≡ Some c) (f : command_of n ≡ Some d) where
-  pub same_byte : c ≡ d → true ≡ eqb b n
-  same_byte q = let w : b ≡ n = byte_is b c e ∙ ap byte_of q ∙ sym (byte_is n d f) in sym (eq-eqb b n w)
+module _ (b : ℕ) (c d : Command) (e : command_of b ≡ Some c) where
+  pub same_byte : c ≡ d → true ≡ eqb b (number_of_command d)
+  same_byte q = sym (eq-eqb b (number_of_command d) (byte_is b c e ∙ ap number_of_command q))
 
-  pub other_byte : c ≢ d → false ≡ eqb b n
-  other_byte q = go (eqb b n) refl
+  pub other_byte : c ≢ d → false ≡ eqb b (number_of_command d)
+  other_byte q = go (eqb b (number_of_command d)) refl
     where
-      go : (t : Bool) → eqb b n ≡ t → false ≡ eqb b n
-      go true h = let w : b ≡ n = eqb-true b n h in let z : c ≡ d = cc in absurd (q z)
+      go : (t : Bool) → eqb b (number_of_command d) ≡ t → false ≡ eqb b (number_of_command d)
+      go true h =
+          let w = sym e ∙ ap command_of (eqb-true b (number_of_command d) h) ∙ command_back d in
+          let z : c ≡ d = cc in absurd (q z)
       go false h = sym h

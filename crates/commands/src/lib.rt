@@ -43,7 +43,7 @@ pub enum Part {
 pub fn is_start(s: &[u8]) -> bool
     ensures { result ≡ starts s.now }
 {
-    s.starts_with(b"PSJ1")
+    s.starts_with(&layout::START)
 }
 
 // The command that a byte stands for. The bytes are matched over their ranges, as they are listed; std's TryFrom would want an error.

@@ -56,6 +56,13 @@ impl Expression {
     {
         &self.used[..self.tables.min(Job::TABLES)]
     }
+
+    // Its output columns, likewise.
+    pub fn output_columns(&self) -> &[u8]
+        ensures { result.now ≡ take self.now.width self.now.outputs }
+    {
+        &self.outputs[..self.width.min(Job::COLUMNS)]
+    }
 }
 
 // What is declared: the number of tables, and the first `width` of the columns. An extract and a query are decided over it, whatever

@@ -18,10 +18,10 @@ use Rattle.model.specs.Tables.{Job}
 use Rattle.layout.specs.declared.Command.{Command}
 use Rattle.layout.specs.declared.Command.TheVariants.{NextTable, NextColumn, ExtractBegins, QueryBegins, TableUsed, OutputColumn, NextClause, NumberCompared}
 use Rattle.layout.specs.declared.Command.TheVariants.{ColumnCompared, End}
-use Rattle.layout.specs.Commands.{start_bytes, operands, entry_at}
+use Rattle.layout.specs.Commands.{number_of_command, start_bytes, operands, entry_at}
 use Rattle.layout.specs.Reading.{State, at_start, next, step_of, accepted, starts, read_of}
 use Rattle.layout.specs.Writing.{entry_bytes, job_bytes}
-use Rattle.layout.proofs.Given.{byte_of, Given, step_given}
+use Rattle.layout.proofs.Given.{Given, step_given}
 use Rattle.layout.proofs.Keeps.{start_sound, step_sound}
 use Rattle.layout.proofs.Ends.{read_ended}
 use Rattle.layout.proofs.Entries.{so_far, step_more, end_so_far}
@@ -48,7 +48,7 @@ module _ (s : List ℕ) where
 
   -- a command's bytes
   entry_bytes_lem : (c : Command) (at : ℕ) → Bytes s → at + 1 + operands c ≤ length s
-      → byte_of c ∷ take (operands c) (drop (at + 1) s) ≡ entry_bytes (entry_at c s at)
+      → number_of_command c ∷ take (operands c) (drop (at + 1) s) ≡ entry_bytes (entry_at c s at)
   entry_bytes_lem NextTable at b h = refl
   entry_bytes_lem NextColumn at b h =
       ap (◌∷◌ 0x11) (value_more 4 4 (at + 1) (at + 5) b (omega arith) (omega arith)

@@ -20,11 +20,11 @@ use Rattle.words.proofs.Ops.{op_back}
 use Rattle.layout.specs.declared.Command.{Command}
 use Rattle.layout.specs.declared.Command.TheVariants.{NextTable, NextColumn, ExtractBegins, QueryBegins, TableUsed, OutputColumn, NextClause, NumberCompared}
 use Rattle.layout.specs.declared.Command.TheVariants.{ColumnCompared, End}
-use Rattle.layout.specs.Commands.{Entry, add_table, add_column, mark, use_table, add_output, add_clause, add_comparison, entry_at}
+use Rattle.layout.specs.Commands.{number_of_command, Entry, add_table, add_column, mark, use_table, add_output, add_clause, add_comparison, entry_at}
 use Rattle.layout.specs.Reading.{State, current, follows, with_used, with_output, with_condition, with_current, after}
 use Rattle.layout.specs.Writing.{table_entries, clause_entries, expression_entries, entries_of}
 use Rattle.layout.proofs.Growing.{either, among, in_condition_lem, at_ending}
-use Rattle.layout.proofs.Given.{byte_of, Given}
+use Rattle.layout.proofs.Given.{Given}
 
 -- ---- one more element, one more in the last list
 module _ {A B : Type 0} where
@@ -182,7 +182,7 @@ more_last l true j f =
 -- a command that passed its checks
 module _ (s : List ℕ) (at at' : ℕ) (st st' : State) where
   given_more : (c : Command) → Sound st → Given s at st at' st' c
-      → so_far (after (byte_of c) (entry_at c s at) st) ≡ so_far st ++ entry_at c s at ∷ []
+      → so_far (after (number_of_command c) (entry_at c s at) st) ≡ so_far st ++ entry_at c s at ∷ []
   given_more NextTable h g = more_table st h g.follow
   given_more NextColumn h g = more_column st h (value_at 4 s (at + 1)) (value_at 4 s (at + 5)) g.follow
   given_more ExtractBegins h g = more_extract st h g.follow

@@ -11,36 +11,37 @@ use borrow.Author.Tests.{eqb-true}
 use Rattle.layout.specs.declared.Command.{Command}
 use Rattle.layout.specs.declared.Command.TheVariants.{NextTable, NextColumn, ExtractBegins, QueryBegins, TableUsed, OutputColumn, NextClause, NumberCompared}
 use Rattle.layout.specs.declared.Command.TheVariants.{ColumnCompared, End}
-use Rattle.layout.specs.Commands.{command_of, operands, entry_at}
+use Rattle.layout.specs.Commands.{number_of_command, command_of, operands, entry_at}
 use Rattle.layout.specs.Reading.{State, current, follows, has_room, has_operands, in_ranges, op_known, declared, is_new, after, Step, next, check, taken}
 use Rattle.layout.specs.Reading.{if_listed, step_of}
 
 -- ---- a command's byte
-abbrev pub byte_of : Command → ℕ
-byte_of NextTable = 0x10
-byte_of NextColumn = 0x11
-byte_of ExtractBegins = 0x20
-byte_of QueryBegins = 0x21
-byte_of TableUsed = 0x30
-byte_of OutputColumn = 0x31
-byte_of NextClause = 0x40
-byte_of NumberCompared = 0x41
-byte_of ColumnCompared = 0x42
-byte_of End = 0xFF
+pub command_back : (c : Command) → command_of (number_of_command c) ≡ Some c
+unfolding command_of
+command_back NextTable = refl
+command_back NextColumn = refl
+command_back ExtractBegins = refl
+command_back QueryBegins = refl
+command_back TableUsed = refl
+command_back OutputColumn = refl
+command_back NextClause = refl
+command_back NumberCompared = refl
+command_back ColumnCompared = refl
+command_back End = refl
 
 -- one row of the list of commands, and the rows below it
-row : (b : ℕ) (c d : Command) (rest : Option Command) → (rest ≡ Some c → b ≡ byte_of c) → cond (eqb b (byte_of d)) (Some d) rest ≡ Some c
-    → b ≡ byte_of c
-row b c d rest below e = go (eqb b (byte_of d)) refl e
+row : (b : ℕ) (c d : Command) (rest : Option Command) → (rest ≡ Some c → b ≡ number_of_command c) → cond (eqb b (number_of_command d)) (Some d) rest ≡ Some c
+    → b ≡ number_of_command c
+row b c d rest below e = go (eqb b (number_of_command d)) refl e
   where
-    go : (t : Bool) → eqb b (byte_of d) ≡ t → cond t (Some d) rest ≡ Some c → b ≡ byte_of c
-    go true h f = let g : d ≡ c = cc in rw (← g) (eqb-true b (byte_of d) h)
+    go : (t : Bool) → eqb b (number_of_command d) ≡ t → cond t (Some d) rest ≡ Some c → b ≡ number_of_command c
+    go true h f = let g : d ≡ c = cc in rw (← g) (eqb-true b (number_of_command d) h)
     go false h f = below f
 
 none_some : {c : Command} {b n : ℕ} → ◌≡◌ {A = Option Command} None (Some c) → b ≡ n
 none_some e = cc
 
-pub byte_is : (b : ℕ) (c : Command) → command_of b ≡ Some c → b ≡ byte_of c
+pub byte_is : (b : ℕ) (c : Command) → command_of b ≡ Some c → b ≡ number_of_command c
 unfolding command_of
 byte_is b c =
     row b c NextTable _ (row b c NextColumn _ (row b c ExtractBegins _ (row b c QueryBegins _ (row b c TableUsed _ (row b c OutputColumn _
@@ -50,7 +51,7 @@ byte_is b c =
 -- ---- what the checks leave
 pub record Given (s : List ℕ) (at : ℕ) (st : State) (at' : ℕ) (st' : State) (c : Command) : Type 0 where
   pub inside : at < length s
-  pub byte : get_or s at 0 ≡ byte_of c
+  pub byte : get_or s at 0 ≡ number_of_command c
   pub follow : T (follows st c)
   pub room : T (has_room st c)
   pub whole : at + 1 + operands c ≤ length s
@@ -59,7 +60,7 @@ pub record Given (s : List ℕ) (at : ℕ) (st : State) (at' : ℕ) (st' : State
   pub named : T (declared st.job.tables (current st) (entry_at c s at))
   pub new : T (is_new (current st) (entry_at c s at))
   pub place : at + 1 + operands c ≡ at'
-  pub state : after (byte_of c) (entry_at c s at) st ≡ st'
+  pub state : after (number_of_command c) (entry_at c s at) st ≡ st'
 
 passed : (n at : ℕ) (t : Bool) (rest : Step) {at' : ℕ} {st' : State} → check n at t rest ≡ next at' st' → T t × (rest ≡ next at' st')
 passed n at true rest e = (tt, e)

@@ -22,11 +22,11 @@ use Rattle.model.specs.WellFormed.{in_scope, against_in_scope, comparison_formed
 use Rattle.layout.specs.declared.Command.{Command}
 use Rattle.layout.specs.declared.Command.TheVariants.{NextTable, NextColumn, ExtractBegins, QueryBegins, TableUsed, OutputColumn, NextClause, NumberCompared}
 use Rattle.layout.specs.declared.Command.TheVariants.{ColumnCompared, End}
-use Rattle.layout.specs.Commands.{in_condition, add_table, add_column, mark, use_table, add_output, add_clause, add_comparison, entry_at}
+use Rattle.layout.specs.Commands.{number_of_command, in_condition, add_table, add_column, mark, use_table, add_output, add_clause, add_comparison, entry_at}
 use Rattle.layout.specs.Reading.{State, no_expression, at_start, current, follows, has_room, above_last, with_used, with_output, with_condition, with_current}
 use Rattle.layout.specs.Reading.{after, next, step_of}
 use Rattle.layout.proofs.Growing.{ascending_more, differ_more, either, among, in_condition_lem, at_ending}
-use Rattle.layout.proofs.Given.{byte_of, Given, step_given}
+use Rattle.layout.proofs.Given.{Given, step_given}
 
 -- ---- an expression with one thing more
 
@@ -341,7 +341,7 @@ start_sound = record {
 
 module _ (s : List ℕ) (at at' : ℕ) (st st' : State) where
   -- a command that passed its checks
-  given_sound : (c : Command) → Sound st → Given s at st at' st' c → Sound (after (byte_of c) (entry_at c s at) st)
+  given_sound : (c : Command) → Sound st → Given s at st at' st' c → Sound (after (number_of_command c) (entry_at c s at) st)
   given_sound NextTable h g = sound_table st h g.follow g.room
   given_sound NextColumn h g = sound_column st h _ _ g.follow g.room g.ranged
   given_sound ExtractBegins h g = sound_extract st h g.follow

@@ -13,6 +13,7 @@ use lib.Dec.{T, eqb}
 use borrow.Author.Tests.{lt-ltb, le-leb, eq-eqb}
 use Rattle.base.specs.Lists.{flat_map}
 use Rattle.base.specs.Bytes.{Bytes}
+use Rattle.base.proofs.Bytes.{bytes_none, bytes_more, bytes_append}
 use Rattle.base.proofs.Tests.{T-is}
 use Rattle.words.specs.Word.{sign_bit, unsigned_of, encoded, value_at}
 use Rattle.words.proofs.Words.{bytes_are, decode_encode}
@@ -23,19 +24,6 @@ use Rattle.layout.specs.declared.Command.TheVariants.{ColumnCompared, End}
 use Rattle.layout.specs.Commands.{command_of, operands, Entry, add_table, add_column, mark, use_table, add_output, add_clause, add_comparison, entry_at}
 use Rattle.layout.specs.Reading.{State, current, follows, has_room, in_ranges, op_known, declared, is_new, after, next, taken, step_of, accepted, read_from}
 use Rattle.layout.specs.Writing.{entry_bytes}
-
--- ---- bytes
-pub bytes_none : Bytes []
-bytes_none i = omega arith
-
-pub bytes_more : (b : ℕ) (s : List ℕ) → b < 256 → Bytes s → Bytes (b ∷ s)
-bytes_more b s h k zero = h
-bytes_more b s h k (suc i) = k i
-
-pub bytes_append : (s t : List ℕ) → Bytes s → Bytes t → Bytes (s ++ t)
-bytes_append [] t h k i = k i
-bytes_append (b ∷ s) t h k zero = h 0
-bytes_append (b ∷ s) t h k (suc i) = bytes_append s t (λ n. h (suc n)) k i
 
 -- ---- the bytes of an entry: the command's, and as many more as it has operand bytes; wherever they stand, the entry is read off them
 pub record Spelled (c : Command) (b : ℕ) (e : Entry) : Type 0 where

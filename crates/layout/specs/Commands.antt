@@ -11,6 +11,19 @@ start_bytes = 0x50 ∷ 0x53 ∷ 0x4A ∷ 0x31 ∷ []
 
 -- ---- Commands
 
+-- a command's byte
+abbrev pub number_of_command : Command → ℕ
+number_of_command NextTable = 0x10
+number_of_command NextColumn = 0x11
+number_of_command ExtractBegins = 0x20
+number_of_command QueryBegins = 0x21
+number_of_command TableUsed = 0x30
+number_of_command OutputColumn = 0x31
+number_of_command NextClause = 0x40
+number_of_command NumberCompared = 0x41
+number_of_command ColumnCompared = 0x42
+number_of_command End = 0xFF
+
 -- the command that a byte stands for, or none
 unfoldable pub command_of : ℕ → Option Command
 command_of b =

@@ -2,20 +2,33 @@
 #![tactic(auto)]
 
 ghost use Rattle.std.specs.Prelude.{◌≡◌};
+ghost use Rattle.layout.specs.Commands.{number_of_command};
 ghost use Rattle.layout.specs.Faults.{number_of_fault};
 
+// What a job's bytes begin with.
+pub const START: [u8; 4] = *b"PSJ1";
+
+// A command, under its byte.
 #[derive(Clone, Copy)]
 pub enum Command {
-    NextTable,
-    NextColumn,
-    ExtractBegins,
-    QueryBegins,
-    TableUsed,
-    OutputColumn,
-    NextClause,
-    NumberCompared,
-    ColumnCompared,
-    End,
+    NextTable = 0x10,
+    NextColumn = 0x11,
+    ExtractBegins = 0x20,
+    QueryBegins = 0x21,
+    TableUsed = 0x30,
+    OutputColumn = 0x31,
+    NextClause = 0x40,
+    NumberCompared = 0x41,
+    ColumnCompared = 0x42,
+    End = 0xFF,
+}
+
+impl From<Command> for u8 {
+    ghost from_gives = { λ command n. n ≡ number_of_command command };
+
+    fn from(command: Command) -> u8 {
+        command as u8
+    }
 }
 
 // What a call is refused for, under document 01's number of it.

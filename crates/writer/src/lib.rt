@@ -1,18 +1,19 @@
 // Job bytes: writing a record as bytes.
 #![tactic(auto)]
 
-ghost use Rattle.std.specs.Prelude.{◌≡◌, [], ◌∷◌, ◌++◌, ◌≤◌, min, length, take, drop};
+ghost use Rattle.std.specs.Prelude.{◌≡◌, [], ◌∷◌, ◌++◌, ◌≤◌, min, length, drop};
 ghost use Rattle.base.specs.Bytes.{Room, Puts};
 ghost use Rattle.words.specs.Word.{encoded};
 ghost use Rattle.words.specs.Compare.{op_at, number_of_op};
 ghost use Rattle.job.specs.Meaning.{meaning_of};
-ghost use Rattle.layout.specs.Commands.{start_bytes};
+ghost use Rattle.layout.specs.Commands.{start_bytes, number_of_command};
 ghost use Rattle.layout.specs.Writing.{job_bytes};
 ghost use Rattle.writer.specs.Parts.{columns_in, column_in, table_bytes, tables_bytes};
 ghost use Rattle.writer.specs.Parts.{each_bytes, comparison_in, clause_bytes, condition_bytes, expression_bytes};
 
 use base::Output;
 use job::{Clause, Column, Columns, Comparison, Condition, Expression, Job};
+use layout::Command;
 
 // The most bytes that a job has.
 pub const MAX_JOB_BYTES: usize = 579;
@@ -31,7 +32,7 @@ fn put_column(out: &mut Output, c: &Column, t: usize)
     ensures { Puts out.old out.new (column_in t c.now) }
 {
     if usize::from(c.table) == t {
-        out.put(0x11);
+        out.put(u8::from(Command::NextColumn));
         put_value(out, c.bounds.lo);
         put_value(out, c.bounds.hi);
     }
@@ -42,7 +43,7 @@ fn put_table(out: &mut Output, k: &Columns, t: usize)
     requires { Room out.old (table_bytes (columns_in k.now) t) }
     ensures { Puts out.old out.new (table_bytes (columns_in k.now) t) }
 {
-    out.put(0x10);
+    out.put(u8::from(Command::NextTable));
     for c in k.columns.iter().take(k.width) {
         put_column(out, c, t);
     }
@@ -57,13 +58,13 @@ fn put_tables(out: &mut Output, k: &Columns)
     }
 }
 
-// Command b with each of the first `count` elements of l.
-fn put_each(out: &mut Output, b: u8, l: &[u8], count: usize)
-    requires { Room out.old (each_bytes b (take count l.now)) }
-    ensures { Puts out.old out.new (each_bytes b (take count l.now)) }
+// A command with each element of l.
+fn put_each(out: &mut Output, command: Command, l: &[u8])
+    requires { Room out.old (each_bytes (number_of_command command) l.now) }
+    ensures { Puts out.old out.new (each_bytes (number_of_command command) l.now) }
 {
-    for x in l.iter().take(count) {
-        out.put_all(&[b, *x]);
+    for x in l {
+        out.put_all(&[u8::from(command), *x]);
     }
 }
 
@@ -80,10 +81,10 @@ fn put_comparison(out: &mut Output, k: &Comparison)
 {
     let op = op_number(k.op);
     if k.right == 0 {
-        out.put_all(&[0x41, op, k.left]);
+        out.put_all(&[u8::from(Command::NumberCompared), op, k.left]);
         put_value(out, k.number);
     } else {
-        out.put_all(&[0x42, op, k.left, k.right - 1]);
+        out.put_all(&[u8::from(Command::ColumnCompared), op, k.left, k.right - 1]);
     }
 }
 
@@ -91,7 +92,7 @@ fn put_clause(out: &mut Output, c: &Clause)
     requires { Room out.old (clause_bytes c.now) }
     ensures { Puts out.old out.new (clause_bytes c.now) }
 {
-    out.put(0x40);
+    out.put(u8::from(Command::NextClause));
     for k in c.comparisons.iter().take(c.size) {
         put_comparison(out, k);
     }
@@ -107,13 +108,13 @@ fn put_condition(out: &mut Output, k: &Condition)
 }
 
 // An expression, behind the command that it begins with.
-fn put_expression(out: &mut Output, b: u8, e: &Expression)
-    requires { Room out.old (b ∷ expression_bytes e.now) }
-    ensures { Puts out.old out.new (b ∷ expression_bytes e.now) }
+fn put_expression(out: &mut Output, command: Command, e: &Expression)
+    requires { Room out.old (number_of_command command ∷ expression_bytes e.now) }
+    ensures { Puts out.old out.new (number_of_command command ∷ expression_bytes e.now) }
 {
-    out.put(b);
-    put_each(out, 0x30, &e.used, e.tables);
-    put_each(out, 0x31, &e.outputs, e.width);
+    out.put(u8::from(command));
+    put_each(out, Command::TableUsed, e.used_tables());
+    put_each(out, Command::OutputColumn, e.output_columns());
     put_condition(out, &e.condition);
 }
 
@@ -124,10 +125,10 @@ pub fn write(job: Job, out: &mut [u8]) -> usize
     ensures bytes { out.new ≡ job_bytes (meaning_of job) ++ drop (length (job_bytes (meaning_of job))) out.old }
 {
     let mut to = Output { bytes: out, at: 0 };
-    to.put_all(b"PSJ1");
+    to.put_all(&layout::START);
     put_tables(&mut to, &job.declared);
-    put_expression(&mut to, 0x20, &job.extract);
-    put_expression(&mut to, 0x21, &job.query);
-    to.put(0xFF);
+    put_expression(&mut to, Command::ExtractBegins, &job.extract);
+    put_expression(&mut to, Command::QueryBegins, &job.query);
+    to.put(u8::from(Command::End));
     to.at
 }

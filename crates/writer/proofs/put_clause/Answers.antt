@@ -7,11 +7,11 @@ use Rattle.writer.proofs.put_clause.Goals as goal
 
 pub put-requires : goal.put-requires
 unfolding clause_bytes
-put-requires c = room_first (0x40 ∷ []) _ c.requires
+put-requires c = rw c.from.ensures (room_first (0x40 ∷ []) _ c.requires)
 
 pub loop-k-init : goal.loop-k-init
 unfolding clause_bytes
-loop-k-init c = yet_all (search rules) (room_next (0x40 ∷ []) _ c.requires c.put.ensures)
+loop-k-init c = yet_all (search rules) (room_next (0x40 ∷ []) _ c.requires (rw c.from.ensures at c.put.ensures))
 
 pub put_comparison-requires : goal.put_comparison-requires
 put_comparison-requires c = yet_room c.loop-k.invariant _ c.in-Some.ensures.steps
@@ -21,4 +21,4 @@ loop-k-preserved c = yet_next c.loop-k.invariant c.in-Some.ensures.steps c.put_c
 
 pub returns : goal.returns
 unfolding clause_bytes
-returns c = and_then_lem c.put.ensures (yet_none c.loop-k.invariant c.in-None.ensures.steps)
+returns c = and_then_lem (rw c.from.ensures at c.put.ensures) (yet_none c.loop-k.invariant c.in-None.ensures.steps)

@@ -7,11 +7,11 @@ use Rattle.writer.proofs.put_table.Goals as goal
 
 pub put-requires : goal.put-requires
 unfolding table_bytes
-put-requires c = room_first (0x10 ∷ []) _ c.requires
+put-requires c = rw c.from.ensures (room_first (0x10 ∷ []) _ c.requires)
 
 pub loop-c-init : goal.loop-c-init
 unfolding table_bytes
-loop-c-init c = yet_all (search rules) (room_next (0x10 ∷ []) _ c.requires c.put.ensures)
+loop-c-init c = yet_all (search rules) (room_next (0x10 ∷ []) _ c.requires (rw c.from.ensures at c.put.ensures))
 
 pub put_column-requires : goal.put_column-requires
 put_column-requires c = yet_room c.loop-c.invariant _ c.in-Some.ensures.steps
@@ -21,4 +21,4 @@ loop-c-preserved c = yet_next c.loop-c.invariant c.in-Some.ensures.steps c.put_c
 
 pub returns : goal.returns
 unfolding table_bytes
-returns c = and_then_lem c.put.ensures (yet_none c.loop-c.invariant c.in-None.ensures.steps)
+returns c = and_then_lem (rw c.from.ensures at c.put.ensures) (yet_none c.loop-c.invariant c.in-None.ensures.steps)

@@ -27,7 +27,7 @@ put-requires c =
     let tables = and_then_lem c.put_all.ensures c.put_tables.ensures in
     let extract = and_then_lem tables c.put_expression.ensures in
     let query = and_then_lem extract c.put_expression-2.ensures in
-    room_end c.args.job (sized c.args.job _ c.well_formed.0) refl c.requires query
+    rw c.from.ensures (room_end c.args.job (sized c.args.job _ c.well_formed.0) refl c.requires query)
 
 pub returns : goal.returns
 unfolding record_bytes
@@ -35,5 +35,5 @@ returns c =
     let tables = and_then_lem c.put_all.ensures c.put_tables.ensures in
     let extract = and_then_lem tables c.put_expression.ensures in
     let query = and_then_lem extract c.put_expression-2.ensures in
-    let r = written c.args.job refl (search rules) (and_then_lem query c.put.ensures) in
+    let r = written c.args.job refl (search rules) (and_then_lem query (rw c.from.ensures at c.put.ensures)) in
     record { count = r.0; bytes = r.1 }

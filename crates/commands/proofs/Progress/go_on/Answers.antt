@@ -5,7 +5,6 @@ use lib.ListN.{get_or}
 use lib.Dec.{eqb}
 use Rattle.std.proofs.lemmas.Result.{err_from_is_err_and}
 use Rattle.commands.proofs.Entering.{refused, room, still_held, entered, same_byte, other_byte}
-use Rattle.layout.proofs.Taken.{spelled_query, spelled_end}
 use Rattle.commands.proofs.Progress.go_on.Goals as goal
 use Rattle.commands.proofs.Progress.go_on.Goals.{Joined-matches-2, then-self, else-self+in-QueryBegins, else-self+in_default, in-End, in_default-matches}
 
@@ -26,9 +25,9 @@ begun c =
     elim c.if-self.branch [
       | then-self w ↦ rw (w.self-is, w.if-self.true)
       | else-self+in-QueryBegins w ↦
-          rw (w.self-is, w.if-self.false) (same_byte _ _ _ _ listed spelled_query.listed w.in-QueryBegins.is)
+          rw (w.self-is, w.if-self.false) (same_byte _ _ _ listed w.in-QueryBegins.is)
       | else-self+in_default w ↦
-          rw (w.self-is, w.if-self.false) (other_byte _ _ _ _ listed spelled_query.listed w.in_default.not-QueryBegins)
+          rw (w.self-is, w.if-self.false) (other_byte _ _ _ listed w.in_default.not-QueryBegins)
     ]
 
 pub invariant_of-self : goal.invariant_of-self
@@ -41,8 +40,8 @@ ended : (c : Joined-matches-2) → c.match-matches-2.matches ≡ eqb (get_or c.a
 ended c =
     let listed = rw (← c.self.view_is) at c.requires.listed in
     elim c.match-matches-2.branch [
-      | in-End w ↦ rw w.matches-is (same_byte _ _ _ _ listed spelled_end.listed w.in-End.is)
-      | in_default-matches w ↦ rw w.matches-is (other_byte _ _ _ _ listed spelled_end.listed w.in_default-matches.not-End)
+      | in-End w ↦ rw w.matches-is (same_byte _ _ _ listed w.in-End.is)
+      | in_default-matches w ↦ rw w.matches-is (other_byte _ _ _ listed w.in_default-matches.not-End)
     ]
 
 pub returns : goal.returns
