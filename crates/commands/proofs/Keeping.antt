@@ -12,7 +12,6 @@ use Rattle.job.specs.declared.Expression.{Expression}
 use Rattle.job.specs.declared.Job.{Job}
 use Rattle.job.specs.Meaning.{condition_record, expression_record, record_of}
 use Rattle.layout.specs.Reading.{State, current}
-use Rattle.layout.proofs.Rooms.{used_fit, outputs_fit}
 use Rattle.commands.specs.Reached.{Held}
 use Rattle.commands.specs.Uses.{current_in, last_clause}
 use Rattle.commands.proofs.Laid.{current_laid}
@@ -47,15 +46,9 @@ module _ {r : Job} {st : State} (h : Held r st) where
   unfolding expression_record
   used_held = ap (λ (x : Expression). x.tables) current_held
 
-  pub used_small : ex.tables ≤ 4
-  used_small = omega (arith, used_held, used_fit h.sound.begun, h.sound.few_tables)
-
   pub outputs_held : ex.width ≡ length m.outputs
   unfolding expression_record
   outputs_held = ap (λ (x : Expression). x.width) current_held
-
-  pub outputs_small : ex.width ≤ 16
-  outputs_small = omega (arith, outputs_held, outputs_fit h.sound.begun, h.sound.few_columns)
 
   pub condition_held : ex.condition ≡ condition_record m.condition
   unfolding expression_record
@@ -75,5 +68,5 @@ module _ {r : Job} {st : State} (h : Held r st) where
     pub current_at : current_in q r ≡ expression_record m
     current_at = rw (← e) current_held
 
-    pub current_within : ((current_in q r).tables ≤ 4) × ((current_in q r).width ≤ 16) × ((current_in q r).condition.size ≤ 4)
-    current_within = rw (← e) (used_small, outputs_small, size_small)
+    pub current_within : (current_in q r).condition.size ≤ 4
+    current_within = rw (← e) size_small

@@ -1,17 +1,17 @@
 -- Tests on the record of a job are the tests on the job. Assumes nothing.
 use mathlib.Core.Path.{◌≡◌, refl, ap, ◌∙◌}
-use mathlib.Core.Logic.{◌≢◌}
-use mathlib.Core.Bool.{Bool, true, false, ◌&&◌, ◌||◌}
+use mathlib.Core.Bool.{Bool, true, false, ◌&&◌}
 use mathlib.Core.List.{List, [], ◌∷◌}
-use Prim.Native.Nat.{ℕ, zero, suc, ◌-◌, ◌≤◌, ◌<◌}
+use Prim.Native.Nat.{ℕ, ◌-◌, ◌≤◌, ◌<◌}
 use native.Mathlib.Numerals.{sub-one}
 use native.Mathlib.Omega.{arith}
 use lib.ListN.{length, get_or, take}
 use lib.Dec.{eqb, ltb}
-use borrow.Author.Tests.{eq-eqb, ne_eqb, le-ltb, lt-ltb, ltb-true}
+use borrow.Author.Tests.{le-ltb, lt-ltb, ltb-true}
+use Rattle.std.specs.Prelude.{None, Some, slice_get}
 use Rattle.base.specs.Lists.{any_of, last_of}
 use Rattle.base.specs.Arrays.{padded}
-use Rattle.base.proofs.Arrays.{take_padded, get_or_padded}
+use Rattle.base.proofs.Arrays.{take_padded}
 use Rattle.model.specs.Tables as model
 use Rattle.model.specs.Tables.{columns_of, table_of, uses}
 use Rattle.model.specs.WellFormed.{in_scope}
@@ -29,26 +29,22 @@ use Rattle.commands.proofs.Laid.{last_laid}
 abbrev pub scoped_in : Job → Expression → ℕ → Bool
 scoped_in r e c = ltb c r.declared.width && any_of (eqb (get_or r.declared.columns c no_column).table) (take e.tables e.used)
 
--- table t comes after the used tables
-abbrev pub above_in : Expression → ℕ → Bool
-above_in e t = eqb e.tables 0 || ltb (get_or e.used (e.tables - 1) 0) t
+-- the last of some numbers, if there is one, and the test against it
+none_last : (l : List ℕ) (t : ℕ) → None ≡ slice_get l (length l - 1) → true ≡ above_last l t
+none_last [] t e = refl
+none_last (x ∷ l) t e = absurd (go x l (rw sub-one at e))
+  where
+    go : (x : ℕ) (l : List ℕ) → None ≡ slice_get (x ∷ l) (length l) → ⊥
+    go x [] e = let w : ◌≡◌ {A = ℕ} 0 1 = cc in omega arith
+    go x (y ∷ l) e = go y l e
 
-last_above : (l : List ℕ) (i t : ℕ) → suc i ≡ length l → ltb (get_or l i 0) t ≡ above_last l t
-last_above [] i t e = absurd (omega arith)
-last_above (x ∷ []) zero t e = refl
-last_above (x ∷ []) (suc i) t e = absurd (omega arith)
-last_above (x ∷ y ∷ l) zero t e = absurd (omega arith)
-last_above (x ∷ y ∷ l) (suc i) t e = last_above (y ∷ l) i t (omega arith)
-
-above_list : (l : List ℕ) (t : ℕ) → (eqb (length l) 0 || ltb (get_or (padded 4 0 l) (length l - 1) 0) t) ≡ above_last l t
-above_list [] t = refl
-above_list (x ∷ l) t =
-    rw (ne_eqb (suc (length l)) 0 (λ e. omega arith), sub-one, get_or_padded 4 0 (x ∷ l) (length l) 0 (omega arith))
-    (last_above (x ∷ l) (length l) t refl)
-
-pub above_is : (e : model.Expression) (t : ℕ) → above_in (expression_record e) t ≡ above_last e.used t
-unfolding expression_record
-above_is e t = above_list e.used t
+some_last : (l : List ℕ) (t u : ℕ) → Some u ≡ slice_get l (length l - 1) → ltb u t ≡ above_last l t
+some_last [] t u e = let w : ◌≡◌ {A = ℕ} 0 1 = cc in absurd (omega arith)
+some_last (x ∷ l) t u e = go x l (rw sub-one at e)
+  where
+    go : (x : ℕ) (l : List ℕ) → Some u ≡ slice_get (x ∷ l) (length l) → ltb u t ≡ above_last (x ∷ l) t
+    go x [] e = let w : u ≡ x = cc in rw w
+    go x (y ∷ l) e = go y l e
 
 pub outputs_are : (e : model.Expression) → take (expression_record e).width (expression_record e).outputs ≡ e.outputs
 unfolding expression_record
@@ -72,11 +68,15 @@ scoped_is j e c = rw (used_are e) (go (ltb c (length (columns_of j.tables))) ref
 
 -- ---- of an expression that is a job's
 module _ (x : Expression) (e : model.Expression) (is : x ≡ expression_record e) where
-  pub above_none : (t : ℕ) → x.tables ≡ 0 → eqb x.tables 0 ≡ above_last e.used t
-  above_none t n = let all : above_in x t ≡ above_last e.used t = rw is (above_is e t) in let q = rw (eq-eqb x.tables 0 n) at all in eq-eqb x.tables 0 n ∙ q
+  module _ (l : List ℕ) (t : ℕ) (used : l ≡ take x.tables x.used) where
+    same : l ≡ e.used
+    same = used ∙ rw is (used_are e)
 
-  pub above_some : (t : ℕ) → x.tables ≢ 0 → ltb (get_or x.used (x.tables - 1) 0) t ≡ above_last e.used t
-  above_some t n = let all : above_in x t ≡ above_last e.used t = rw is (above_is e t) in rw (ne_eqb x.tables 0 n) at all
+    pub above_none : None ≡ slice_get l (length l - 1) → true ≡ above_last e.used t
+    above_none h = none_last e.used t (rw same at h)
+
+    pub above_some : (u : ℕ) → Some u ≡ slice_get l (length l - 1) → ltb u t ≡ above_last e.used t
+    above_some u h = some_last e.used t u (rw same at h)
 
   pub outputs_held : take x.width x.outputs ≡ e.outputs
   outputs_held = rw is (outputs_are e)

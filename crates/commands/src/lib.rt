@@ -227,7 +227,7 @@ impl Progress {
     // The expression that commands are for.
     fn current(&self) -> &Expression
         ensures laid { result.now ≡ expression_record (current self.now.state) }
-        ensures within { (result.now.tables ≤ 4) × (result.now.width ≤ 16) × (result.now.condition.size ≤ 4) }
+        ensures within { result.now.condition.size ≤ 4 }
     {
         if self.in_query {
             &self.job.query
@@ -280,8 +280,9 @@ impl Progress {
         if k >= self.job.declared.width {
             return false;
         }
-        let e = self.current();
-        e.used[..e.tables].contains(&self.job.declared.columns[k].table)
+        self.current()
+            .used_tables()
+            .contains(&self.job.declared.columns[k].table)
     }
 
     // Whether table t comes after the used tables.
@@ -289,8 +290,10 @@ impl Progress {
     fn is_above(&self, t: u8) -> bool
         ensures { result ≡ above_last (current self.now.state).used t }
     {
-        let e = self.current();
-        e.tables == 0 || e.used[e.tables - 1] < t
+        match self.current().used_tables().last() {
+            None => true,
+            Some(u) => *u < t,
+        }
     }
 
     // Whether column c is an output already.
@@ -298,8 +301,7 @@ impl Progress {
     fn is_output(&self, c: u8) -> bool
         ensures { result ≡ any_of (eqb c) (current self.now.state).outputs }
     {
-        let e = self.current();
-        e.outputs[..e.width].contains(&c)
+        self.current().output_columns().contains(&c)
     }
 
     // ---- A command's operands, by the checks 7 to 10 in this order

@@ -13,9 +13,9 @@ bounds-self-inside-k c = omega (arith, c.if-k-self.false, width_small c.self.inv
 
 pub returns-clause-scoped : goal.returns-clause-scoped
 returns-clause-scoped c =
-    let laid = rw (← c.self.view_is) at c.current-e.ensures.laid in
+    let laid = rw (← c.self.view_is) at c.current.ensures.laid in
     let below = rw c.from-k.ensures at c.if-k-self.false in
-    rw (← c.self.view_is, ← scope_held _ _ c.self.invariant.laid _ _ below _ laid) (search rules)
+    rw (← c.self.view_is, ← scope_held _ _ c.self.invariant.laid _ _ below _ laid, ← c.used_tables.ensures) (search rules)
 
 pub returns-clause-within : goal.returns-clause-within
 returns-clause-within c = λ _. omega (arith, c.from-k.ensures, c.if-k-self.false, width_small c.self.invariant)
