@@ -45,7 +45,10 @@ passed st y x e =
     let (k, z) = judged 10 (is_new (current st) y) _ e₁₀ in
     record { ranged = f; known = g; named = h; new = k; same = cc }
 
-module _ (s : List ℕ) (p : Reached) (c : Command) (ready : Ready s p c) where
+module _ (p : Reached) (c : Command) (ready : Ready p c) where
+  abbrev s : List ℕ
+  s = p.bytes
+
   abbrev at : ℕ
   at = p.at
 
@@ -54,10 +57,10 @@ module _ (s : List ℕ) (p : Reached) (c : Command) (ready : Ready s p c) where
 
   -- the command's byte and its entry
   abbrev b : ℕ
-  b = get_or s p.at 0
+  b = get_or p.bytes p.at 0
 
   abbrev y : Entry
-  y = entry_at c s p.at
+  y = entry_at c p.bytes p.at
 
   -- a command that is refused
   pub refused : (f : Fault) → Err f ≡ judged_of st y → (refused_at p.at (Err f), p) ≡ stepped_of p (taken s at st b c)
@@ -109,7 +112,7 @@ module _ (s : List ℕ) (p : Reached) (c : Command) (ready : Ready s p c) where
       still_held = rw state_is (record { laid = laid; sound = kept })
 
       pub entered : (n : ℕ) (z : Bool) → n ≡ operands c → z ≡ eqb b 0xFF
-          → (Ok z, record { at = at + (1 + n); state = state_of b q new }) ≡ stepped_of p (taken s at st b c)
+          → (Ok z, record { bytes = s; at = at + (1 + n); state = state_of b q new }) ≡ stepped_of p (taken s at st b c)
       entered n z m o = let place : at + (1 + n) ≡ at + 1 + operands c = omega (arith, m) in rw (went, o, place, state_is)
 
 -- ---- a command by its byte

@@ -1,6 +1,8 @@
 -- What has been read at the start. Assumes nothing.
 use mathlib.Core.Path.{◌≡◌, refl}
 use mathlib.Core.Bool.{false}
+use mathlib.Core.List.{List}
+use Prim.Native.Nat.{ℕ}
 use Rattle.job.specs.Record.{no_job}
 use Rattle.job.specs.Meaning.{expression_of, expression_record, job_of, record_of}
 use Rattle.layout.specs.Reading.{at_start}
@@ -15,5 +17,5 @@ pub start_held : Held no_job (state_of 0 false no_job)
 unfolding job_of expression_of record_of expression_record
 start_held = record { laid = refl; sound = start_sound }
 
-pub start_is : record { at = 4; state = state_of 0 false no_job } ≡ started
-start_is = rw start_state
+pub start_is : (s : List ℕ) → record { bytes = s; at = 4; state = state_of 0 false no_job } ≡ started s
+start_is s = rw start_state

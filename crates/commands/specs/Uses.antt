@@ -1,5 +1,5 @@
 -- What the functions on commands answer and what they may rely on: entries added to a record, and the checks of a command's operands.
-use Rattle.std.specs.Prelude.{◌≡◌, Bool, true, cond, ◌&&◌, List, [], ℕ, ◌+◌, ◌-◌, ◌<◌, ◌≤◌, length, get_or, set, ℤ, T, eqb, Some, Result}
+use Rattle.std.specs.Prelude.{◌≡◌, Bool, true, cond, ◌&&◌, [], ℕ, ◌+◌, ◌-◌, ◌<◌, ◌≤◌, length, get_or, set, ℤ, T, eqb, Some, Result}
 use Rattle.std.specs.Prelude.{Ok, Err}
 use Rattle.std.specs.Int.Signed.{le_z}
 use Rattle.model.specs.WellFormed.{in_range}
@@ -15,7 +15,7 @@ use Rattle.job.specs.Meaning.{column_record, comparison_record}
 use Rattle.layout.specs.declared.Command.{Command}
 use Rattle.layout.specs.declared.Fault.{Fault}
 use Rattle.layout.specs.Commands.{command_of, operands, Entry, add_table, add_column, mark, use_table, add_output, add_clause}
-use Rattle.layout.specs.Commands.{add_comparison}
+use Rattle.layout.specs.Commands.{add_comparison, entry_at}
 use Rattle.layout.specs.declared.Refusal.{Refusal}
 use Rattle.layout.specs.Faults.{fault_of, refusal_of}
 use Rattle.layout.specs.Reading.{State, Step, next, stop, current, follows, has_room, in_ranges, op_known, declared, is_new, taken}
@@ -143,15 +143,19 @@ judged_of st x =
 -- ---- A command
 
 -- a command that stands where one is due, in order, with room and with its operands
-pub record Ready (s : List ℕ) (p : Reached) (c : Command) : Type 0 where
-  pub listed : command_of (get_or s p.at 0) ≡ Some c
+pub record Ready (p : Reached) (c : Command) : Type 0 where
+  pub listed : command_of (get_or p.bytes p.at 0) ≡ Some c
   pub in_order : follows p.state c ≡ true
   pub room : has_room p.state c ≡ true
-  pub whole : p.at + 1 + operands c ≤ length s
+  pub whole : p.at + 1 + operands c ≤ length p.bytes
 
 -- what the definition says of it
-abbrev pub taken_at : List ℕ → Reached → Command → Step
-taken_at s p c = taken s p.at p.state (get_or s p.at 0) c
+abbrev pub taken_at : Reached → Command → Step
+taken_at p c = taken p.bytes p.at p.state (get_or p.bytes p.at 0) c
+
+-- what is said of its entry
+abbrev pub judged_at : Reached → Command → Result Addition Fault
+judged_at p c = judged_of p.state (entry_at c p.bytes p.at)
 
 -- whether the job ends with a command, or its fault as a refusal at a position
 abbrev pub refused_at : ℕ → Result Bool Fault → Result Bool Refusal
@@ -160,5 +164,5 @@ refused_at at (Err f) = Err (record { fault = f; at = at })
 
 -- what a command comes to: whether the job ends with it, and what has been read then, or a refusal, and what had been read
 abbrev pub stepped_of : Reached → Step → Result Bool Refusal × Reached
-stepped_of p (next at st) = (Ok (eqb st.last 0xFF), record { at = at; state = st })
+stepped_of p (next at st) = (Ok (eqb st.last 0xFF), record { bytes = p.bytes; at = at; state = st })
 stepped_of p (stop n at) = (Err (refusal_of n at), p)

@@ -2,16 +2,16 @@
 // the record.
 #![tactic(auto)]
 
-ghost use Rattle.std.specs.Prelude.{◌≡◌, true, ◌+◌, ◌≤◌, ◌<◌, length, eqb, leb};
+ghost use Rattle.std.specs.Prelude.{◌≡◌, true, ◌+◌, ◌≤◌, ◌<◌, length, get_or, eqb, leb};
 ghost use Rattle.base.specs.Lists.{any_of};
 ghost use Rattle.model.specs.Tables.{columns_of};
 ghost use Rattle.model.specs.WellFormed.{in_scope, in_range};
 ghost use Rattle.job.specs.Meaning.{expression_record, record_of};
 ghost use Rattle.layout.specs.declared.Command.TheVariants.{NextColumn, TableUsed, OutputColumn, NumberCompared, ColumnCompared};
-ghost use Rattle.layout.specs.Commands.{command_of, operands, in_condition, ending, before, entry_at};
-ghost use Rattle.layout.specs.Reading.{starts, current, follows, has_room, above_last};
+ghost use Rattle.layout.specs.Commands.{command_of, operands, in_condition, ending, before};
+ghost use Rattle.layout.specs.Reading.{starts, current, follows, has_room, has_operands, above_last};
 ghost use Rattle.commands.specs.Reached.{started};
-ghost use Rattle.commands.specs.Uses.{bounds_fit, part_more, grown, judged_of, taken_at, refused_at, stepped_of, PartFits, Fits, Ready};
+ghost use Rattle.commands.specs.Uses.{bounds_fit, part_more, grown, judged_at, taken_at, refused_at, stepped_of, PartFits, Fits, Ready};
 
 use job::{Column, Comparison, Expression, Job};
 use layout::{Command, Fault};
@@ -128,14 +128,6 @@ fn is_ending(last: u8) -> bool
     last == 0x31 || is_in_condition(last)
 }
 
-// Whether n bytes stand behind the one at a place.
-pub fn has_bytes(s: &[u8], at: usize, n: usize) -> bool
-    requires { at < length s.now }
-    ensures { result ≡ leb (at + 1 + n) (length s.now) }
-{
-    n < s.len() - at
-}
-
 // Whether a bound or a number is within the limits.
 fn in_range(v: i32) -> bool
     ensures { result ≡ in_range v }
@@ -159,39 +151,48 @@ fn is_op(o: u8) -> bool
 
 // ---- What has been read
 
-// What has been read so far: where the next command is due, the byte of the last command (0 at the start), whether the query has begun,
-// and the record. The record is a job's at every moment: its query is empty until it begins. The last command is a byte, as in the
-// definition's state and in what `follows` is asked.
+// What has been read so far of some bytes: where the next command is due, the byte of the last command (0 at the start), whether the query
+// has begun, and the record. The record is a job's at every moment: its query is empty until it begins. The last command is a byte, as in
+// the definition's state and in what `follows` is asked.
 #[derive(Drop)]
-pub struct Progress {
+pub struct Progress<'a> {
+    bytes: &'a [u8],
     at: usize,
     last: u8,
     in_query: bool,
     job: Job,
 }
 
-// Clauses see the place and what the definition of reading says has been read.
-impl Model for Progress {
+// Clauses see the bytes, the place and what the definition of reading says has been read.
+impl<'a> Model for Progress<'a> {
     ghost use Rattle.commands.specs.Reached.{Reached, state_of, Held};
 
     ghost Value = { Reached };
 
-    ghost view = { λ p. record { at = p.at; state = state_of p.last p.in_query p.job } };
+    ghost view = { λ p. record { bytes = p.bytes.now; at = p.at; state = state_of p.last p.in_query p.job } };
 
     ghost invariant = { λ p. Held p.job (state_of p.last p.in_query p.job) };
 }
 
-impl Progress {
+impl<'a> Progress<'a> {
     // Nothing but the start.
-    pub fn new() -> Self
-        ensures { result ≡ started }
+    pub fn new(bytes: &'a [u8]) -> Self
+        ensures { result ≡ started bytes.now }
     {
         Self {
+            bytes,
             at: 4,
             last: 0,
             in_query: false,
             job: Job::empty(),
         }
+    }
+
+    // The bytes.
+    pub fn bytes(&self) -> &'a [u8]
+        ensures { result.now ≡ self.now.bytes }
+    {
+        self.bytes
     }
 
     // Where the next command is due.
@@ -203,7 +204,7 @@ impl Progress {
 
     // The record.
     pub fn into_job(self) -> Job
-        ensures { result ≡ record_of self.state.job }
+        ensures { result ≡ record_of self.entry.state.job }
     {
         self.job
     }
@@ -236,6 +237,14 @@ impl Progress {
         }
     }
 
+    // The command that is due, if its byte is one.
+    pub fn due(&self) -> Option<Command>
+        requires { self.now.at < length self.now.bytes }
+        ensures { result ≡ command_of (get_or self.now.bytes self.now.at 0) }
+    {
+        command(self.bytes[self.at])
+    }
+
     // Whether a command is in order.
     pub fn follows(&self, c: Command) -> bool
         ensures { result ≡ follows self.now.state c }
@@ -261,6 +270,13 @@ impl Progress {
         }
     }
 
+    // Whether a command's operands stand behind its byte.
+    pub fn has_operands(&self, c: Command) -> bool
+        ensures { result ≡ has_operands self.now.bytes self.now.at c }
+    {
+        operands(c) < self.bytes.len().saturating_sub(self.at)
+    }
+
     // Whether the last clause has room. Where there is none, the first place has an empty one.
     #[tactic(auto, using(crate::proofs::Looks::last_size_held))]
     fn has_room_to_compare(&self) -> bool
@@ -280,9 +296,8 @@ impl Progress {
         if k >= self.job.declared.width {
             return false;
         }
-        self.current()
-            .used_tables()
-            .contains(&self.job.declared.columns[k].table)
+        let table = self.job.declared.columns[k].table;
+        self.current().used_tables().contains(&table)
     }
 
     // Whether table t comes after the used tables.
@@ -307,13 +322,12 @@ impl Progress {
     // ---- A command's operands, by the checks 7 to 10 in this order
 
     // 11: lo, hi.
-    fn next_column(&self, s: &[u8]) -> Result<Addition, Fault>
-        requires { (follows self.now.state NextColumn ≡ true) × (self.now.at + 9 ≤ length s.now) }
-        ensures { result ≡ judged_of self.now.state (entry_at NextColumn s.now self.now.at) }
+    fn next_column(&self) -> Result<Addition, Fault>
+        requires { (follows self.now.state NextColumn ≡ true) × (self.now.at + 9 ≤ length self.now.bytes) }
+        ensures { result ≡ judged_at self.now NextColumn }
     {
-        let at = self.at();
-        let lo = words::read(s, at + 1);
-        let hi = words::read(s, at + 5);
+        let lo = words::read(self.bytes, self.at + 1);
+        let hi = words::read(self.bytes, self.at + 5);
         if !are_bounds(lo, hi) {
             return Err(Fault::OutOfRange);
         }
@@ -324,11 +338,11 @@ impl Progress {
     }
 
     // 30: a table, declared and above the ones before it.
-    fn table_used(&self, s: &[u8]) -> Result<Addition, Fault>
-        requires { self.now.at + 2 ≤ length s.now }
-        ensures { result ≡ judged_of self.now.state (entry_at TableUsed s.now self.now.at) }
+    fn table_used(&self) -> Result<Addition, Fault>
+        requires { self.now.at + 2 ≤ length self.now.bytes }
+        ensures { result ≡ judged_at self.now TableUsed }
     {
-        let t = s[self.at() + 1];
+        let t = self.bytes[self.at + 1];
         if usize::from(t) >= self.tables() {
             return Err(Fault::Undeclared);
         }
@@ -339,11 +353,11 @@ impl Progress {
     }
 
     // 31: a column in scope that is no output yet.
-    fn output_column(&self, s: &[u8]) -> Result<Addition, Fault>
-        requires { self.now.at + 2 ≤ length s.now }
-        ensures { result ≡ judged_of self.now.state (entry_at OutputColumn s.now self.now.at) }
+    fn output_column(&self) -> Result<Addition, Fault>
+        requires { self.now.at + 2 ≤ length self.now.bytes }
+        ensures { result ≡ judged_at self.now OutputColumn }
     {
-        let c = s[self.at() + 1];
+        let c = self.bytes[self.at + 1];
         if !self.is_in_scope(c) {
             return Err(Fault::Undeclared);
         }
@@ -354,20 +368,19 @@ impl Progress {
     }
 
     // 41: op, column, number. The number is judged before the op.
-    fn number_compared(&self, s: &[u8]) -> Result<Addition, Fault>
-        requires { self.now.at + 7 ≤ length s.now }
-        ensures { result ≡ judged_of self.now.state (entry_at NumberCompared s.now self.now.at) }
+    fn number_compared(&self) -> Result<Addition, Fault>
+        requires { self.now.at + 7 ≤ length self.now.bytes }
+        ensures { result ≡ judged_at self.now NumberCompared }
     {
-        let at = self.at();
-        let number = words::read(s, at + 3);
+        let number = words::read(self.bytes, self.at + 3);
         if !in_range(number) {
             return Err(Fault::OutOfRange);
         }
-        let op = s[at + 1];
+        let op = self.bytes[self.at + 1];
         if !is_op(op) {
             return Err(Fault::UnknownOp);
         }
-        let left = s[at + 2];
+        let left = self.bytes[self.at + 2];
         if !self.is_in_scope(left) {
             return Err(Fault::Undeclared);
         }
@@ -381,20 +394,19 @@ impl Progress {
     }
 
     // 42: op, column, column.
-    fn column_compared(&self, s: &[u8]) -> Result<Addition, Fault>
-        requires { self.now.at + 4 ≤ length s.now }
-        ensures { result ≡ judged_of self.now.state (entry_at ColumnCompared s.now self.now.at) }
+    fn column_compared(&self) -> Result<Addition, Fault>
+        requires { self.now.at + 4 ≤ length self.now.bytes }
+        ensures { result ≡ judged_at self.now ColumnCompared }
     {
-        let at = self.at();
-        let op = s[at + 1];
+        let op = self.bytes[self.at + 1];
         if !is_op(op) {
             return Err(Fault::UnknownOp);
         }
-        let left = s[at + 2];
+        let left = self.bytes[self.at + 2];
         if !self.is_in_scope(left) {
             return Err(Fault::Undeclared);
         }
-        let right = s[at + 3];
+        let right = self.bytes[self.at + 3];
         if !self.is_in_scope(right) {
             return Err(Fault::Undeclared);
         }
@@ -408,31 +420,31 @@ impl Progress {
     }
 
     // What a command adds that has passed the checks 2 to 6.
-    pub fn enter(&self, s: &[u8], c: Command) -> Result<Addition, Fault>
-        requires { (follows self.now.state c ≡ true) × (self.now.at + 1 + operands c ≤ length s.now) }
-        ensures { result ≡ judged_of self.now.state (entry_at c s.now self.now.at) }
+    pub fn enter(&self, c: Command) -> Result<Addition, Fault>
+        requires { (follows self.now.state c ≡ true) × (self.now.at + 1 + operands c ≤ length self.now.bytes) }
+        ensures { result ≡ judged_at self.now c }
     {
         match c {
             Command::NextTable => Ok(Addition::Table),
-            Command::NextColumn => self.next_column(s),
-            Command::TableUsed => self.table_used(s),
-            Command::OutputColumn => self.output_column(s),
+            Command::NextColumn => self.next_column(),
+            Command::TableUsed => self.table_used(),
+            Command::OutputColumn => self.output_column(),
             Command::NextClause => Ok(Addition::Part(Part::Clause)),
-            Command::NumberCompared => self.number_compared(s),
-            Command::ColumnCompared => self.column_compared(s),
+            Command::NumberCompared => self.number_compared(),
+            Command::ColumnCompared => self.column_compared(),
             Command::ExtractBegins | Command::QueryBegins | Command::End => Ok(Addition::Nothing),
         }
     }
 
     // Takes a command that has passed the checks 2 to 6, and goes on to the next: whether the job ends with it, or its fault. The record is
     // written in place.
-    pub fn go_on(&mut self, s: &[u8], c: Command) -> Result<bool, Fault>
-        requires { Ready s.now self.old c }
-        ensures { (refused_at self.old.at result, self.new) ≡ stepped_of self.old (taken_at s.now self.old c) }
+    pub fn go_on(&mut self, c: Command) -> Result<bool, Fault>
+        requires { Ready self.old c }
+        ensures { (refused_at self.old.at result, self.new) ≡ stepped_of self.old (taken_at self.old c) }
     {
-        let x = self.enter(s, c)?;
+        let x = self.enter(c)?;
         add(&mut self.job, self.in_query, x);
-        self.last = s[self.at];
+        self.last = self.bytes[self.at];
         self.at += 1 + operands(c);
         self.in_query = self.in_query || matches!(c, Command::QueryBegins);
         Ok(matches!(c, Command::End))

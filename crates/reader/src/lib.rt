@@ -3,7 +3,8 @@
 
 ghost use Rattle.std.specs.Prelude.{◌≡◌, ◌<◌, length};
 ghost use Rattle.layout.specs.Faults.{refusal_of};
-ghost use Rattle.layout.specs.Reading.{step_of, read_of};
+ghost use Rattle.layout.specs.Reading.{read_of};
+ghost use Rattle.commands.specs.Reached.{step_at};
 ghost use Rattle.commands.specs.Uses.{refused_at, stepped_of};
 ghost use Rattle.reader.specs.Answers.{decoded_of};
 
@@ -23,12 +24,11 @@ fn missing(s: &[u8]) -> Refusal
 
 // The command that is due, through the checks 3 to 10: whether the job ends with it.
 #[tactic(auto, using(crate::proofs::Steps::refusals))]
-fn take(s: &[u8], p: &mut Progress) -> Result<bool, Fault>
-    requires { p.old.at < length s.now }
-    ensures { (refused_at p.old.at result, p.new) ≡ stepped_of p.old (step_of s.now p.old.at p.old.state) }
+fn take(p: &mut Progress) -> Result<bool, Fault>
+    requires { p.old.at < length p.old.bytes }
+    ensures { (refused_at p.old.at result, p.new) ≡ stepped_of p.old (step_at p.old) }
 {
-    let at = p.at();
-    let Some(c) = commands::command(s[at]) else {
+    let Some(c) = p.due() else {
         return Err(Fault::Unlisted);
     };
     if !p.follows(c) {
@@ -37,22 +37,22 @@ fn take(s: &[u8], p: &mut Progress) -> Result<bool, Fault>
     if !p.has_room(c) {
         return Err(Fault::NoRoom);
     }
-    if !commands::has_bytes(s, at, commands::operands(c)) {
+    if !p.has_operands(c) {
         return Err(Fault::NoOperands);
     }
-    p.go_on(s, c)
+    p.go_on(c)
 }
 
 // One command, through the checks 2 to 10: whether the job ends with it.
 #[tactic(auto, using(crate::proofs::Steps::step_none))]
-fn step(s: &[u8], p: &mut Progress) -> Result<bool, Refusal>
-    ensures { (result, p.new) ≡ stepped_of p.old (step_of s.now p.old.at p.old.state) }
+fn step(p: &mut Progress) -> Result<bool, Refusal>
+    ensures { (result, p.new) ≡ stepped_of p.old (step_at p.old) }
 {
     let at = p.at();
-    if at >= s.len() {
-        return Err(missing(s));
+    if at >= p.bytes().len() {
+        return Err(missing(p.bytes()));
     }
-    take(s, p).map_err(|fault| Refusal { fault, at })
+    take(p).map_err(|fault| Refusal { fault, at })
 }
 
 // The job that some bytes stand for, or the first thing that is wrong with them. A command takes a byte or more, so that there are as many
@@ -67,10 +67,10 @@ pub fn read(s: &[u8]) -> Result<Job, Refusal>
             at: 0,
         });
     }
-    let mut p = Progress::new();
+    let mut p = Progress::new(s);
     for _ in 0..s.len() {
         // taken apart by let .. else, as document 01 has it
-        let took = step(s, &mut p);
+        let took = step(&mut p);
         let Ok(ended) = took else {
             return Err(took.unwrap_err());
         };

@@ -4,4 +4,4 @@ use Rattle.reader.proofs.Steps.{listed}
 use Rattle.reader.proofs.take.Goals as goal
 
 pub returns : goal.returns
-returns c = listed _ _ c.requires _ (rw c.at-at.ensures at (sym c.command.ensures ∙ c.in-Some.is)) _ _ c.go_on.ensures
+returns c = listed _ c.requires _ (sym c.due.ensures ∙ c.in-Some.is) _ _ c.go_on.ensures

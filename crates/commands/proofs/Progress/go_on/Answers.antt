@@ -11,15 +11,15 @@ use Rattle.commands.proofs.Progress.go_on.Goals.{Joined-matches-2, then-self, el
 pub returns-in_err-x : goal.returns-in_err-x
 returns-in_err-x c =
     let out = err_from_is_err_and c.from_residual.result c.from_residual.ensures.1 in
-    rw (out.1, out.2) (refused _ _ _ c.requires _ (sym c.in_err-x.was ∙ c.enter.ensures))
+    rw (out.1, out.2) (refused _ _ c.requires _ (sym c.in_err-x.was ∙ c.enter.ensures))
 
 pub add-requires : goal.add-requires
 add-requires c =
-    room _ _ _ (rw (← c.self.view_is) at c.requires) _ c.self.invariant _
+    room _ _ (rw (← c.self.view_is) at c.requires) _ c.self.invariant _
     (rw (← c.self.view_is) at (sym c.in_ok-x.was ∙ c.enter.ensures))
 
 -- the query has begun, or begins
-begun : (c : Joined-matches-2) → c.if-self.self ≡ (c.self.inside.in_query || eqb (get_or c.args.s.now c.self.inside.at 0) 0x21)
+begun : (c : Joined-matches-2) → c.if-self.self ≡ (c.self.inside.in_query || eqb (get_or c.self.inside.bytes.now c.self.inside.at 0) 0x21)
 begun c =
     let listed = rw (← c.self.view_is) at c.requires.listed in
     elim c.if-self.branch [
@@ -32,11 +32,11 @@ begun c =
 
 pub invariant_of-self : goal.invariant_of-self
 invariant_of-self c =
-    still_held _ _ _ (rw (← c.self.view_is) at c.requires) _ c.self.invariant _
+    still_held _ _ (rw (← c.self.view_is) at c.requires) _ c.self.invariant _
     (rw (← c.self.view_is) at (sym c.in_ok-x.was ∙ c.enter.ensures)) _ c.add.ensures _ (begun c)
 
 -- the job ends, or goes on
-ended : (c : Joined-matches-2) → c.match-matches-2.matches ≡ eqb (get_or c.args.s.now c.self.inside.at 0) 0xFF
+ended : (c : Joined-matches-2) → c.match-matches-2.matches ≡ eqb (get_or c.self.inside.bytes.now c.self.inside.at 0) 0xFF
 ended c =
     let listed = rw (← c.self.view_is) at c.requires.listed in
     elim c.match-matches-2.branch [
@@ -47,5 +47,5 @@ ended c =
 pub returns : goal.returns
 returns c =
     rw (← c.self.view_is)
-    (entered _ _ _ (rw (← c.self.view_is) at c.requires) _ c.self.invariant _
+    (entered _ _ (rw (← c.self.view_is) at c.requires) _ c.self.invariant _
     (rw (← c.self.view_is) at (sym c.in_ok-x.was ∙ c.enter.ensures)) _ c.add.ensures _ (begun c) _ _ c.operands.ensures (ended c))

@@ -6,4 +6,4 @@ pub invariant_of-result : goal.invariant_of-result
 invariant_of-result c = rw c.empty.ensures start_held
 
 pub returns : goal.returns
-returns c = rw c.empty.ensures start_is
+returns c = rw c.empty.ensures (start_is _)
