@@ -150,16 +150,7 @@ unfolding so_far
 start_reached = (start_sound, refl)
 
 entry_size : (c : Command) (s : List ℕ) (at : ℕ) → length (entry_bytes (entry_at c s at)) ≡ 1 + operands c
-entry_size NextTable s at = refl
-entry_size NextColumn s at = refl
-entry_size ExtractBegins s at = refl
-entry_size QueryBegins s at = refl
-entry_size TableUsed s at = refl
-entry_size OutputColumn s at = refl
-entry_size NextClause s at = refl
-entry_size NumberCompared s at = refl
-entry_size ColumnCompared s at = refl
-entry_size End s at = refl
+entry_size c s at = grind arith
 
 -- a command goes forward
 step_reached : (s : List ℕ) (at at' : ℕ) (st st' : State) → Reached at st → step_of s at st ≡ next at' st' → Reached at' st' × (at < at')
@@ -181,16 +172,7 @@ value_within w (suc i) (suc n) [] h = refl
 value_within w (suc i) (suc n) (x ∷ l) h = value_within w i n l (omega arith)
 
 few_operands : (c : Command) → operands c ≤ 8
-few_operands NextTable = omega arith
-few_operands NextColumn = omega arith
-few_operands ExtractBegins = omega arith
-few_operands QueryBegins = omega arith
-few_operands TableUsed = omega arith
-few_operands OutputColumn = omega arith
-few_operands NextClause = omega arith
-few_operands NumberCompared = omega arith
-few_operands ColumnCompared = omega arith
-few_operands End = omega arith
+few_operands c = grind arith
 
 listed_same : (at : ℕ) (o : Option Command) (f g : Command → Step) → ((c : Command) → f c ≡ g c) → if_listed at o f ≡ if_listed at o g
 listed_same at None f g h = refl

@@ -9,27 +9,13 @@ use lib.Dec.{eqb, ltb}
 use Rattle.std.specs.Prelude.{Option, None, Some}
 use Rattle.layout.specs.declared.Command.{Command}
 use Rattle.layout.specs.declared.Fault.{Fault}
-use Rattle.layout.specs.declared.Fault.TheVariants.{Start, Missing, Unlisted, OutOfOrder, NoRoom, NoOperands, OutOfRange, UnknownOp, Undeclared, NotNew}
-use Rattle.layout.specs.declared.Fault.TheVariants.{Trailing, NeverRead, TooFewBytes}
 use Rattle.layout.specs.Faults.{number_of_fault, fault_of}
 use Rattle.layout.specs.Commands.{command_of, entry_at}
 use Rattle.layout.specs.Reading.{State, current, at_start, follows, has_room, has_operands, in_ranges, op_known, declared, is_new}
 use Rattle.layout.specs.Reading.{Step, next, stop, check, taken, if_listed, step_of, Reading, accepted, refused, ended, onward, read_from, starts, read_of}
 
 pub fault_back : (f : Fault) → fault_of (number_of_fault f) ≡ f
-fault_back Start = refl
-fault_back Missing = refl
-fault_back Unlisted = refl
-fault_back OutOfOrder = refl
-fault_back NoRoom = refl
-fault_back NoOperands = refl
-fault_back OutOfRange = refl
-fault_back UnknownOp = refl
-fault_back Undeclared = refl
-fault_back NotNew = refl
-fault_back Trailing = refl
-fault_back NeverRead = refl
-fault_back TooFewBytes = refl
+fault_back f = grind arith
 
 -- ---- the numbers under which reading refuses
 abbrev Numbered : ℕ → Type 0

@@ -18,16 +18,7 @@ use Rattle.layout.specs.Reading.{if_listed, step_of}
 -- ---- a command's byte
 pub command_back : (c : Command) → command_of (number_of_command c) ≡ Some c
 unfolding command_of
-command_back NextTable = refl
-command_back NextColumn = refl
-command_back ExtractBegins = refl
-command_back QueryBegins = refl
-command_back TableUsed = refl
-command_back OutputColumn = refl
-command_back NextClause = refl
-command_back NumberCompared = refl
-command_back ColumnCompared = refl
-command_back End = refl
+command_back c = grind arith
 
 -- one row of the list of commands, and the rows below it
 row : (b : ℕ) (c d : Command) (rest : Option Command) → (rest ≡ Some c → b ≡ number_of_command c) → cond (eqb b (number_of_command d)) (Some d) rest ≡ Some c

@@ -14,7 +14,6 @@ use Rattle.base.proofs.Lists.{all_among, last_append, in_last_lem, length_concat
 use Rattle.base.proofs.Tests.{or_right}
 use Rattle.words.specs.Compare.{number_of_op}
 use Rattle.words.specs.declared.Op.{Op}
-use Rattle.words.specs.declared.Op.TheVariants.{Less, AtMost, Equal, AtLeast, More}
 use Rattle.model.specs.Tables.{Table, Against, column, number, Comparison, Clause, Expression, Job, columns_of, table_of, uses}
 use Rattle.model.specs.declared.Bounds.{Bounds}
 use Rattle.model.specs.WellFormed.{table_formed, in_scope, against_in_scope, comparison_formed, in_range, against_limited}
@@ -158,11 +157,7 @@ take_in true l j e f w o i a h = run_one w o h (rw (a (with_current true j e)))
 take_in false l j e f w o i a h = run_one w o h (rw (i, a (with_current false j e)))
 
 op_below : (o : Op) → number_of_op o ≤ 4
-op_below Less = omega arith
-op_below AtMost = omega arith
-op_below Equal = omega arith
-op_below AtLeast = omega arith
-op_below More = omega arith
+op_below o = grind arith
 
 abbrev up_to : List ℕ → List ℕ → List Clause → Expression
 up_to us os ks = record { used = us; outputs = os; condition = ks }

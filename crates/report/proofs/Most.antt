@@ -1,5 +1,5 @@
 -- How long the texts are at most. Assumes nothing.
-use mathlib.Core.Bool.{Bool, true, false}
+use mathlib.Core.Bool.{Bool}
 use mathlib.Core.List.{◌++◌}
 use Prim.Native.Nat.{ℕ, zero, suc, ◌*◌, ◌≤◌, ◌<◌}
 use native.Mathlib.Omega.{arith}
@@ -39,11 +39,7 @@ columns_most f small (suc n) =
     rw (length-append (field " " (f 0)) (flat_map (tabulate n (λ i. f (suc i))) (field " "))) (omega (arith, one, rest))
 
 first_few : (a b c d : Bool) → first_kind a b c d ≤ 4
-first_few true b c d = omega arith
-first_few false true c d = omega arith
-first_few false false true d = omega arith
-first_few false false false true = omega arith
-first_few false false false false = omega arith
+first_few a b c d = grind arith
 
 kind_few : (j : Job) → kind_of j < 256
 unfolding kind_of

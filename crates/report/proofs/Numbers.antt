@@ -9,22 +9,9 @@ use Rattle.model.specs.Answers.{number_of_held}
 use Rattle.model.specs.declared.Held.{Held}
 use Rattle.layout.specs.Faults.{number_of_fault}
 use Rattle.layout.specs.declared.Fault.{Fault}
-use Rattle.layout.specs.declared.Fault.TheVariants.{Start, Missing, Unlisted, OutOfOrder, NoRoom, NoOperands, OutOfRange, UnknownOp, Undeclared, NotNew, Trailing, NeverRead, TooFewBytes}
 
 pub fault_byte : (f : Fault) → number_of_fault f < 256
-fault_byte Start = omega arith
-fault_byte Missing = omega arith
-fault_byte Unlisted = omega arith
-fault_byte OutOfOrder = omega arith
-fault_byte NoRoom = omega arith
-fault_byte NoOperands = omega arith
-fault_byte OutOfRange = omega arith
-fault_byte UnknownOp = omega arith
-fault_byte Undeclared = omega arith
-fault_byte NotNew = omega arith
-fault_byte Trailing = omega arith
-fault_byte NeverRead = omega arith
-fault_byte TooFewBytes = omega arith
+fault_byte f = grind arith
 
 -- the listing's numbers, one by one
 pub columns_text : (l : List Held) → flat_map l (λ h. field " " (number_of_held h)) ≡ flat_map (map number_of_held l) (field " ")
