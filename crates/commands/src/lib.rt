@@ -17,7 +17,6 @@ use job::{Column, Comparison, Expression, Job};
 use layout::{Command, Fault};
 use model::Bounds;
 use std::marker::Model;
-use words::Op;
 
 // What a command adds to the record. The commands that begin an expression or end the job add nothing.
 #[derive(Clone, Copy)]
@@ -140,13 +139,6 @@ fn are_bounds(lo: i32, hi: i32) -> bool
     ensures { result ≡ bounds_fit lo hi }
 {
     in_range(lo) && in_range(hi) && lo <= hi
-}
-
-// Whether a byte is an op's number.
-fn is_op(o: u8) -> bool
-    ensures { result ≡ leb o 4 }
-{
-    o <= u8::from(Op::More)
 }
 
 // ---- What has been read
@@ -377,7 +369,7 @@ impl<'a> Progress<'a> {
             return Err(Fault::OutOfRange);
         }
         let op = self.bytes[self.at + 1];
-        if !is_op(op) {
+        if !words::is_op(op) {
             return Err(Fault::UnknownOp);
         }
         let left = self.bytes[self.at + 2];
@@ -399,7 +391,7 @@ impl<'a> Progress<'a> {
         ensures { result ≡ judged_at self.now ColumnCompared }
     {
         let op = self.bytes[self.at + 1];
-        if !is_op(op) {
+        if !words::is_op(op) {
             return Err(Fault::UnknownOp);
         }
         let left = self.bytes[self.at + 2];

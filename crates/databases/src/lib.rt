@@ -201,7 +201,7 @@ fn listed(k: &Columns, extract: &Expression, marks: [bool; Job::COLUMNS], c: usi
 {
     if !uses(extract, k.columns[c].table) {
         Held::NotUsed
-    } else if extract.outputs[..extract.width].contains(&(c as u8)) {
+    } else if extract.output_columns().contains(&(c as u8)) {
         Held::Stored
     } else if marks[c] {
         Held::Open

@@ -191,8 +191,6 @@ module _ {k : Columns} {extract query : Expression} {rows : TwinRows} (u : Decid
       }
 
   -- ---- the columns and their twins
-  pub query_outputs : query.width ≤ 16
-  query_outputs = outputs_fit j.query query (query_is r g.laid) size.query
 
   outputs_are : take query.width query.outputs ≡ j.query.outputs
   unfolding job_of expression_of

@@ -121,7 +121,7 @@ fn decide_sized<const N: usize>(
     solver::set_bounds(&mut z, &rows.bounds[..rows.columns]);
     if kind == Kind::Computable {
         let wants_other = rows.rename(query.condition);
-        let cs = &query.outputs[..query.width];
+        let cs = query.output_columns();
         kind = find_two(
             &z,
             rows,
@@ -154,7 +154,7 @@ pub fn decide(k: Columns, extract: Expression, query: Expression) -> Verdict
     requires { Given k extract query }
     ensures { IsVerdict k extract query result }
 {
-    let rows = TwinRows::of(&k, &extract.outputs[..extract.width]);
+    let rows = TwinRows::of(&k, extract.output_columns());
     // With few columns in two rows as one, as nearly always, the zones are small, since to zero them would take longer than all the rest.
     if rows.columns < 13 {
         return decide_sized::<SMALL>(k, extract, query, &rows);

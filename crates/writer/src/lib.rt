@@ -4,7 +4,6 @@
 ghost use Rattle.std.specs.Prelude.{◌≡◌, [], ◌∷◌, ◌++◌, ◌≤◌, min, length, drop};
 ghost use Rattle.base.specs.Bytes.{Room, Puts};
 ghost use Rattle.words.specs.Word.{encoded};
-ghost use Rattle.words.specs.Compare.{op_at, number_of_op};
 ghost use Rattle.job.specs.Meaning.{meaning_of};
 ghost use Rattle.layout.specs.Commands.{start_bytes, number_of_command};
 ghost use Rattle.layout.specs.Writing.{job_bytes};
@@ -14,6 +13,7 @@ ghost use Rattle.writer.specs.Parts.{each_bytes, comparison_in, clause_bytes, co
 use base::Output;
 use job::{Clause, Column, Columns, Comparison, Condition, Expression, Job};
 use layout::Command;
+use words::Op;
 
 // The most bytes that a job has.
 pub const MAX_JOB_BYTES: usize = 579;
@@ -68,18 +68,12 @@ fn put_each(out: &mut Output, command: Command, l: &[u8])
     }
 }
 
-// The number of the op that an op's number means: above 4, that is 4, since a record may have any.
-fn op_number(op: u8) -> u8
-    ensures { result ≡ number_of_op (op_at op) }
-{
-    op.min(4)
-}
-
 fn put_comparison(out: &mut Output, k: &Comparison)
     requires { Room out.old (comparison_in k.now) }
     ensures { Puts out.old out.new (comparison_in k.now) }
 {
-    let op = op_number(k.op);
+    // above 4, that is 4, since a record may have any number
+    let op = u8::from(Op::at(k.op));
     if k.right == 0 {
         out.put_all(&[u8::from(Command::NumberCompared), op, k.left]);
         put_value(out, k.number);

@@ -12,7 +12,7 @@ use Rattle.job.specs.Meaning.{job_of, problem}
 use Rattle.job.proofs.Records.{Sized}
 use Rattle.twins.proofs.Marking.{marked_cong}
 use Rattle.verdict.specs.Found.{unfixed_in}
-use Rattle.verdict.proofs.Ready.{sizes, width_of, width_most, columns_most, keeps_renames, wants_renames, one_asks, one_box, one_finds, two_asks, two_box, two_finds, query_outputs, marks_two, finds_unfixed, lists_columns, tables_told}
+use Rattle.verdict.proofs.Ready.{sizes, width_of, width_most, columns_most, keeps_renames, wants_renames, one_asks, one_box, one_finds, two_asks, two_box, two_finds, marks_two, finds_unfixed, lists_columns, tables_told}
 use Rattle.verdict.proofs.Told.{Told, none_found, some_found, told_first, told_second}
 use Rattle.verdict.proofs.Handing.{pairs_asked, pair_handed_out, listing_told}
 use Rattle.verdict.proofs.Decided.{kind_found}
@@ -30,7 +30,7 @@ told g c size =
     elim c.if-eq.branch [
       | then-eq s ↦ rw (s.out-is, s.kind-is) (told_second u size _ one tables c.find_one-kind.ensures.kind (none_found _ c.eq.ensures s.if-eq.true)
           c.rename-keeps_other.ensures s.rename-wants_other.ensures _ (two_box u size c.set_bounds-2.ensures.zone) _
-          s.find_two-kind.ensures.kind s.find_two-kind.ensures.zone)
+          (rw s.output_columns-cs.ensures at s.find_two-kind.ensures.kind) (rw s.output_columns-cs.ensures at s.find_two-kind.ensures.zone))
       | else-eq s ↦ rw (s.out-is, s.kind-is) (told_first u size _ one tables _ c.find_one-kind.ensures.kind (some_found _ c.eq.ensures s.if-eq.false)
           c.find_one-kind.ensures.zone)
     ]
@@ -67,14 +67,17 @@ set_bounds-requires-2 g c = (search rules, two_asks c.requires.decides (sizes c.
 pub rename-wants_other-requires : goal.rename-wants_other-requires
 rename-wants_other-requires g c = wants_renames c.requires.decides (sizes c.well_formed)
 
-pub shared_ref_as_front-cs : goal.shared_ref_as_front-cs
-shared_ref_as_front-cs g c = omega (arith, query_outputs c.requires.decides (sizes c.well_formed))
-
 pub find_two-kind-requires : goal.find_two-kind-requires
 find_two-kind-requires g c =
     let size = sizes c.well_formed in
-    let two = two_box c.requires.decides size c.set_bounds-2.ensures.zone in
-    (search rules, (search rules, two_finds c.requires.decides size c.rename-keeps_other.ensures two c.rename-wants_other.ensures))
+    let two = two_box c.requires.decides size c.set_bounds-2.ensures.zone in (
+      search rules,
+      (
+        search rules,
+        rw c.output_columns-cs.ensures
+            (two_finds c.requires.decides size c.rename-keeps_other.ensures two c.rename-wants_other.ensures),
+      ),
+    )
 
 pub pair_of-pair-requires : goal.pair_of-pair-requires
 pair_of-pair-requires g c =
