@@ -114,8 +114,8 @@ impl TwinRows {
         ensures { result ≡ padded 16 (pos 0) (tabulate n (λ c. value row (at self.now.twin c))) }
     {
         let mut second = [0i32; Job::COLUMNS];
-        for c in 0..n {
-            second[c] = row[usize::from(self.twin[c])];
+        for (c, value) in second[..n].iter_mut().enumerate() {
+            *value = row[usize::from(self.twin[c])];
         }
         second
     }
