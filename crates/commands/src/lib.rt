@@ -262,11 +262,12 @@ impl<'a> Progress<'a> {
         }
     }
 
-    // Whether a command's operands stand behind its byte.
+    // Whether a command's operands stand behind its byte, which is there.
     pub fn has_operands(&self, c: Command) -> bool
+        requires { self.now.at < length self.now.bytes }
         ensures { result ≡ has_operands self.now.bytes self.now.at c }
     {
-        operands(c) < self.bytes.len().saturating_sub(self.at)
+        operands(c) < self.bytes.len() - self.at
     }
 
     // Whether the last clause has room. Where there is none, the first place has an empty one.
