@@ -9,7 +9,8 @@ use Rattle.zone.specs.declared.Constraint.{Constraint}
 use Rattle.zone.specs.Zone.{Zone, allows, tightened, constrained, kept}
 use Rattle.zone.proofs.Closed.{tight_length}
 use Rattle.breaking.specs.Breaking.{breakable, chosen}
-use Rattle.conditions.proofs.Meeting.{Ends, ends_none, ends_some}
+use Rattle.conditions.specs.Meeting.{Ends}
+use Rattle.conditions.proofs.Meeting.{ends_none, ends_some}
 
 -- ---- What is chosen
 

@@ -4,11 +4,10 @@
 
 ghost use Rattle.std.specs.Prelude.{◌≡◌, [], ◌∷◌, ◌+◌, ◌<◌, ◌≤◌, length};
 ghost use Rattle.base.specs.Lists.{all_of};
-ghost use Rattle.base.specs.Options.{is_some};
 ghost use Rattle.job.specs.Meaning.{clause_of, condition_of};
 ghost use Rattle.zone.specs.Zone.{allows, tightened};
 ghost use Rattle.zone.specs.Uses.{Follows};
-ghost use Rattle.conditions.specs.Meeting.{Lies};
+ghost use Rattle.conditions.specs.Meeting.{Ends};
 ghost use Rattle.conditions.specs.Uses.{Small};
 ghost use Rattle.breaking.specs.Breaking.{with_way, ways_of, choices_of, breakable, chosen};
 ghost use Rattle.breaking.specs.Places.{ways_in, clause_ways, choices_in, in_order};
@@ -138,8 +137,7 @@ pub fn choose<const N: usize>(
     rest: &[usize],
 ) -> bool
     requires { Chooses z.now c k.now rest.now }
-    ensures answer { result ≡ is_some (chosen z.now c (in_order rest.now (choices_in k.now))) }
-    ensures zone { Lies (chosen z.now c (in_order rest.now (choices_in k.now))) to.new }
+    ensures { Ends (chosen z.now c (in_order rest.now (choices_in k.now))) result to.new }
 {
     if !z.allows(c) || !open_after(z, c, k, rest) {
         return false;

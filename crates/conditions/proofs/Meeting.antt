@@ -14,7 +14,7 @@ use Rattle.zone.specs.Zone.{Zone, columns_of}
 use Rattle.solver.specs.Solver.{imposed_all}
 use Rattle.solver.specs.Lists.{reached}
 use Rattle.solver.proofs.Found.{reached_is}
-use Rattle.conditions.specs.Meeting.{Lies}
+use Rattle.conditions.specs.Meeting.{Ends}
 use Rattle.conditions.specs.Uses.{ClauseFits}
 use Rattle.conditions.proofs.Lists.{reached_length, imposed_append, reached_first, reached_second}
 
@@ -26,9 +26,7 @@ some_of {A} o told some_row = go o (sym told ∙ some_row)
     go none e = absurd (false≢true e)
     go (some a) e = (a, refl)
 
--- what a function that seeks o answers, and what it leaves
-abbrev pub Ends : Option Zone → Bool → Zone → Type 0
-Ends o r e = (r ≡ is_some o) × Lies o e
+-- ---- how a search ends
 
 pub ends_none : {o : Option Zone} (e : Zone) → o ≡ none → Ends o false e
 ends_none e is = (rw is, λ y found. absurd (none-ne-some y (sym is ∙ found)))

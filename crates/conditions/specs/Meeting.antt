@@ -1,8 +1,8 @@
 -- The rows of a zone that meet a condition, or two, clause by clause.
-use Rattle.std.specs.Prelude.{◌≡◌, [], ◌∷◌, ◌++◌, map, replicate}
+use Rattle.std.specs.Prelude.{◌≡◌, Bool, [], ◌∷◌, ◌++◌, map, replicate}
 use Rattle.std.proofs.Math.Option.{Option, some}
 use Rattle.base.specs.Lists.{flat_map}
-use Rattle.base.specs.Options.{and_then, first_of}
+use Rattle.base.specs.Options.{is_some, and_then, first_of}
 use Rattle.model.specs.Tables as model
 use Rattle.job.specs.declared.Condition.{Condition}
 use Rattle.job.specs.Record.{no_clause}
@@ -35,3 +35,7 @@ always_record = record { size = 1; clauses = replicate 4 no_clause }
 -- what was found is the zone d; with none, nothing is said of d
 abbrev pub Lies : Option Zone → Zone → Type 0
 Lies o d = (y : Zone) → o ≡ some y → d ≡ y
+
+-- a search for o ends so: it answers whether there is something, and what is there is the zone that it leaves
+abbrev pub Ends : Option Zone → Bool → Zone → Type 0
+Ends o r d = (r ≡ is_some o) × Lies o d

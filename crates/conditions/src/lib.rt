@@ -9,7 +9,7 @@ ghost use Rattle.job.specs.Meaning.{clause_of, condition_of};
 ghost use Rattle.zone.specs.Zone.{columns_of};
 ghost use Rattle.solver.specs.Solver.{imposed_all};
 ghost use Rattle.solver.specs.Lists.{reached};
-ghost use Rattle.conditions.specs.Meeting.{always_record, met, Lies};
+ghost use Rattle.conditions.specs.Meeting.{always_record, met, Ends};
 ghost use Rattle.conditions.specs.Uses.{ClauseFits, ConditionFits};
 
 use job::{Clause, Condition, Job};
@@ -48,8 +48,7 @@ pub fn always() -> Condition
 // Some rows of a zone that meet the condition, or none.
 pub fn met<const N: usize>(z: &Zone<N>, k: &Condition, out: &mut Zone<N>) -> bool
     requires { ConditionFits (columns_of z.now) k.now }
-    ensures answer { result ≡ is_some (met z.now (condition_of k.now)) }
-    ensures zone { Lies (met z.now (condition_of k.now)) out.new }
+    ensures { Ends (met z.now (condition_of k.now)) result out.new }
 {
     for c in &k.clauses[..k.size] {
         out.copy_from(z);

@@ -15,7 +15,8 @@ use Rattle.base.proofs.Options.{none_of, then_none, then_some}
 use Rattle.base.proofs.Turns.{first_none, first_more, first_found}
 use Rattle.zone.specs.declared.Constraint.{Constraint}
 use Rattle.zone.specs.Zone.{Zone}
-use Rattle.conditions.proofs.Meeting.{some_of, Ends, ends_some}
+use Rattle.conditions.specs.Meeting.{Ends}
+use Rattle.conditions.proofs.Meeting.{some_of, ends_some}
 use Rattle.breaking.specs.declared.Choices.{Choices}
 use Rattle.breaking.specs.Breaking.{free, chosen}
 use Rattle.breaking.specs.Places.{ways_in, choices_in, clause_ways, in_order}

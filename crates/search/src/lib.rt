@@ -4,11 +4,10 @@
 
 ghost use Rattle.std.specs.Prelude.{◌≡◌, ◌<◌, ◌≤◌, length};
 ghost use Rattle.base.specs.Lists.{filter};
-ghost use Rattle.base.specs.Options.{is_some};
 ghost use Rattle.job.specs.Meaning.{condition_of};
 ghost use Rattle.zone.specs.Zone.{point, allows};
 ghost use Rattle.zone.specs.Uses.{Joins};
-ghost use Rattle.conditions.specs.Meeting.{Lies};
+ghost use Rattle.conditions.specs.Meeting.{Ends};
 ghost use Rattle.breaking.specs.Places.{choices_in};
 ghost use Rattle.search.specs.Order.{weights, exchanged, order_by};
 ghost use Rattle.search.specs.Search.{broken_by, outside};
@@ -118,8 +117,7 @@ fn broken<const N: usize>(
     out: &mut Zone<N>,
 ) -> bool
     requires { Weighs (length x.now) k.now }
-    ensures answer { result ≡ is_some (broken_by x.now k.now.clauses (choices_in k.now)) }
-    ensures zone { Lies (broken_by x.now k.now.clauses (choices_in k.now)) out.new }
+    ensures { Ends (broken_by x.now k.now.clauses (choices_in k.now)) result out.new }
 {
     let order = order_by(weigh(x, k));
     let one = k.ways[order[0]].as_slice();
@@ -160,8 +158,7 @@ pub fn outside<const N: usize>(
     out: &mut Zone<N>,
 ) -> bool
     requires { SearchesOutside z.now a.now b.now k.now }
-    ensures answer { result ≡ is_some (outside z.now (condition_of a.now) (condition_of b.now) k.now.clauses (choices_in k.now)) }
-    ensures zone { Lies (outside z.now (condition_of a.now) (condition_of b.now) k.now.clauses (choices_in k.now)) out.new }
+    ensures { Ends (outside z.now (condition_of a.now) (condition_of b.now) k.now.clauses (choices_in k.now)) result out.new }
 {
     let mut found = false;
     'first: for c in &a.clauses[..a.size] {

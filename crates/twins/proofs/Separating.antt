@@ -22,7 +22,8 @@ use Rattle.job.specs.declared.Comparison.{Comparison}
 use Rattle.job.specs.Meaning.{comparison_of}
 use Rattle.zone.specs.Zone.{Zone, columns_of, kept}
 use Rattle.solver.specs.Solver.{comparison_fits, imposed}
-use Rattle.conditions.proofs.Meeting.{some_of, Ends, ends_none, ends_some}
+use Rattle.conditions.specs.Meeting.{Ends}
+use Rattle.conditions.proofs.Meeting.{some_of, ends_none, ends_some}
 use Rattle.twins.specs.Pairs.{columns_by, apart, some_apart}
 use Rattle.twins.specs.Uses.{Partners}
 

@@ -10,7 +10,7 @@ ghost use Rattle.base.specs.Arrays.{padded};
 ghost use Rattle.model.specs.Tables.{value};
 ghost use Rattle.job.specs.Meaning.{bounds_of, condition_of};
 ghost use Rattle.zone.specs.Zone.{columns_of, can_differ};
-ghost use Rattle.conditions.specs.Meeting.{pairs_of, Lies};
+ghost use Rattle.conditions.specs.Meeting.{pairs_of, Ends};
 ghost use Rattle.twins.specs.Pairs.{some_apart, if_differ};
 ghost use Rattle.twins.specs.Records.{twins_of, column_more, twins_record, renamed_one, renamed_clause, renamed_condition};
 ghost use Rattle.twins.specs.Marks.{marked};
@@ -138,8 +138,7 @@ impl TwinRows {
     fn separate<const N: usize>(&self, z: &mut Zone<N>, cs: &[u8]) -> bool
         requires few { length z.old ≤ 33 }
         requires partners { Partners (columns_of z.old) cs.now self.now.twin }
-        ensures answer { result ≡ is_some (some_apart (at self.now.twin) cs.now z.old) }
-        ensures zone { Lies (some_apart (at self.now.twin) cs.now z.old) z.new }
+        ensures { Ends (some_apart (at self.now.twin) cs.now z.old) result z.new }
     {
         for c in cs {
             let less = Comparison {
@@ -177,9 +176,7 @@ impl TwinRows {
         out: &mut Zone<N>,
     ) -> bool
         requires { Differs z.now k.now l.now cs.now self.now.twin }
-        ensures answer { result ≡ is_some
-            (pairs_of z.now (condition_of k.now) (condition_of l.now) (some_apart (at self.now.twin) cs.now)) }
-        ensures zone { Lies (pairs_of z.now (condition_of k.now) (condition_of l.now) (some_apart (at self.now.twin) cs.now)) out.new }
+        ensures { Ends (pairs_of z.now (condition_of k.now) (condition_of l.now) (some_apart (at self.now.twin) cs.now)) result out.new }
     {
         // a column doesn't differ from itself, since a zone is closed, as `nodes` tells
         let _ = z.nodes();

@@ -10,7 +10,8 @@ use Rattle.model.specs.Tables.{Condition}
 use Rattle.model.specs.Verdict.{first_kind}
 use Rattle.zone.specs.Zone.{Zone}
 use Rattle.conditions.specs.Meeting.{met, pairs_of, always, Lies}
-use Rattle.conditions.proofs.Meeting.{some_of, Ends, ends_none, ends_some}
+use Rattle.conditions.specs.Meeting.{Ends}
+use Rattle.conditions.proofs.Meeting.{some_of, ends_none, ends_some}
 use Rattle.verdict.specs.Found.{without, one_kind, one_found, two_kind, two_found}
 
 -- what a search that found something tells: it is e

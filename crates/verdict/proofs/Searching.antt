@@ -11,7 +11,7 @@ use Rattle.job.specs.Meaning.{condition_of}
 use Rattle.zone.specs.Zone.{Zone, columns_of}
 use Rattle.conditions.specs.Meeting.{always_record}
 use Rattle.conditions.specs.Uses.{ConditionFits}
-use Rattle.conditions.proofs.Meeting.{Ends}
+use Rattle.conditions.specs.Meeting.{Ends}
 use Rattle.breaking.specs.declared.Choices.{Choices}
 use Rattle.breaking.specs.Breaking.{choices_of}
 use Rattle.breaking.specs.Places.{choices_in}

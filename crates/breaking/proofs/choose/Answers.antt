@@ -6,14 +6,12 @@ use Rattle.breaking.proofs.choose.Goals.{then-not-allows-via-then-not-allows, th
 pub returns-then-not-allows : goal.returns-then-not-allows
 returns-then-not-allows g c = elim c.then-not-allows.branch [
   | then-not-allows-via-then-not-allows w ↦
-      let r = none_obeys _ _ _ c.allows.ensures.answer c.args.to.now w.if-not-allows.true in record { answer = r.0; zone = r.1 }
+      none_obeys _ _ _ c.allows.ensures.answer c.args.to.now w.if-not-allows.true
   | then-not-allows-via-else-not-allows+then-not-open_after w ↦
-      let r = none_ahead _ _ _ c.allows.ensures.answer w.if-not-allows.false w.open_after.ensures c.args.to.now w.if-not-open_after.true in
-      record { answer = r.0; zone = r.1 }
+      none_ahead _ _ _ c.allows.ensures.answer w.if-not-allows.false w.open_after.ensures c.args.to.now w.if-not-open_after.true
 ]
 
 pub returns : goal.returns
 returns g c =
-    let r = lays _ _ _ c.allows.ensures.answer c.if-not-allows.false c.open_after.ensures c.if-not-open_after.false
-    c.copy_from.ensures c.constrain.ensures.zone in
-    record { answer = r.0; zone = r.1 }
+    lays _ _ _ c.allows.ensures.answer c.if-not-allows.false c.open_after.ensures c.if-not-open_after.false
+    c.copy_from.ensures c.constrain.ensures.zone

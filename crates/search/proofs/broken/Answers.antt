@@ -1,7 +1,8 @@
 use borrow.Author.Rules.{rules}
 use native.Mathlib.Omega.{arith}
 use mathlib.Core.Path.{refl, sym, ◌∙◌}
-use Rattle.conditions.proofs.Meeting.{Ends, ends_none}
+use Rattle.conditions.specs.Meeting.{Ends}
+use Rattle.conditions.proofs.Meeting.{ends_none}
 use Rattle.search.proofs.Levels.{ready_by, level_start, level_end, level_asks, turn_down, turn_barren, turn_shut, turn_ends, order_four, search_is}
 use Rattle.search.proofs.broken.Goals as goal
 use Rattle.search.proofs.broken.Goals.{else-choose, else-choose-2, else-choose-3, then-choose+else-two-test, then-choose-2+else-three-test, then-choose-3+else-four-test}
@@ -44,7 +45,7 @@ choose-requires g c = (search rules, level_asks c.one.invariant c.as_slice-one.e
 
 pub two-init : goal.two-init
 two-init g c =
-    turn_down c.one.invariant c.as_slice-one.ensures _ c.one-test.true _ (c.choose.ensures.answer, c.choose.ensures.zone)
+    turn_down c.one.invariant c.as_slice-one.ensures _ c.one-test.true _ c.choose.ensures
     (omega arith) c.if-choose.true
 
 pub choose-requires-in-two : goal.choose-requires-in-two
@@ -52,7 +53,7 @@ choose-requires-in-two g c = (search rules, level_asks c.two.invariant c.as_slic
 
 pub three-init : goal.three-init
 three-init g c =
-    turn_down c.two.invariant c.as_slice-two.ensures _ c.two-test.true _ (c.choose-in-two.ensures.answer, c.choose-in-two.ensures.zone)
+    turn_down c.two.invariant c.as_slice-two.ensures _ c.two-test.true _ c.choose-in-two.ensures
     (omega arith) c.if-choose-2.true
 
 pub choose-requires-in-three : goal.choose-requires-in-three
@@ -60,7 +61,7 @@ choose-requires-in-three g c = (search rules, level_asks c.three.invariant c.as_
 
 pub four-init : goal.four-init
 four-init g c =
-    turn_down c.three.invariant c.as_slice-three.ensures _ c.three-test.true _ (c.choose-in-three.ensures.answer, c.choose-in-three.ensures.zone)
+    turn_down c.three.invariant c.as_slice-three.ensures _ c.three-test.true _ c.choose-in-three.ensures
     (omega arith) c.if-choose-3.true
 
 pub choose-requires-in-four : goal.choose-requires-in-four
@@ -68,48 +69,46 @@ choose-requires-in-four g c = (search rules, level_asks c.four.invariant c.as_sl
 
 pub four-preserved : goal.four-preserved
 four-preserved g c =
-    turn_shut c.four.invariant c.as_slice-four.ensures _ c.four-test.true _ (c.choose-in-four.ensures.answer, c.choose-in-four.ensures.zone)
+    turn_shut c.four.invariant c.as_slice-four.ensures _ c.four-test.true _ c.choose-in-four.ensures
     c.if-choose-4.false refl
 
 pub three-preserved : goal.three-preserved
 three-preserved g c = elim c.if-choose-3.branch [
   | then-choose-3+else-four-test s ↦
-      turn_barren c.three.invariant c.as_slice-three.ensures _ c.three-test.true _ (c.choose-in-three.ensures.answer, c.choose-in-three.ensures.zone)
+      turn_barren c.three.invariant c.as_slice-three.ensures _ c.three-test.true _ c.choose-in-three.ensures
       s.if-choose-3.true s.four.invariant c.as_slice-four.ensures s.four-test.false s.found-is
   | else-choose-3 s ↦
-      turn_shut c.three.invariant c.as_slice-three.ensures _ c.three-test.true _ (c.choose-in-three.ensures.answer, c.choose-in-three.ensures.zone)
+      turn_shut c.three.invariant c.as_slice-three.ensures _ c.three-test.true _ c.choose-in-three.ensures
       s.if-choose-3.false s.found-is
 ]
 
 pub two-preserved : goal.two-preserved
 two-preserved g c = elim c.if-choose-2.branch [
   | then-choose-2+else-three-test s ↦
-      turn_barren c.two.invariant c.as_slice-two.ensures _ c.two-test.true _ (c.choose-in-two.ensures.answer, c.choose-in-two.ensures.zone)
+      turn_barren c.two.invariant c.as_slice-two.ensures _ c.two-test.true _ c.choose-in-two.ensures
       s.if-choose-2.true s.three.invariant c.as_slice-three.ensures s.three-test.false s.found-is
   | else-choose-2 s ↦
-      turn_shut c.two.invariant c.as_slice-two.ensures _ c.two-test.true _ (c.choose-in-two.ensures.answer, c.choose-in-two.ensures.zone)
+      turn_shut c.two.invariant c.as_slice-two.ensures _ c.two-test.true _ c.choose-in-two.ensures
       s.if-choose-2.false s.found-is
 ]
 
 pub one-preserved : goal.one-preserved
 one-preserved g c = elim c.if-choose.branch [
   | then-choose+else-two-test s ↦
-      turn_barren c.one.invariant c.as_slice-one.ensures _ c.one-test.true _ (c.choose.ensures.answer, c.choose.ensures.zone)
+      turn_barren c.one.invariant c.as_slice-one.ensures _ c.one-test.true _ c.choose.ensures
       s.if-choose.true s.two.invariant c.as_slice-two.ensures s.two-test.false s.found-is
   | else-choose s ↦
-      turn_shut c.one.invariant c.as_slice-one.ensures _ c.one-test.true _ (c.choose.ensures.answer, c.choose.ensures.zone)
+      turn_shut c.one.invariant c.as_slice-one.ensures _ c.one-test.true _ c.choose.ensures
       s.if-choose.false s.found-is
 ]
 
 pub returns-after-one : goal.returns-after-one
 returns-after-one g c =
-    let r : Ends _ c.one.found c.one.out = rw c.one.invariant.not_yet
+    rw c.one.invariant.not_yet
     (ends_none _ (sym (search_is _ _ _ _ c.weigh.ensures c.order_by-order.ensures)
-    ∙ level_end c.one.invariant c.as_slice-one.ensures c.one-test.false)) in
-    record { answer = r.0; zone = r.1 }
+    ∙ level_end c.one.invariant c.as_slice-one.ensures c.one-test.false))
 
 pub returns-then-choose-4 : goal.returns-then-choose-4
 returns-then-choose-4 g c =
-    let r = turn_ends c.four.invariant c.as_slice-four.ensures _ c.four-test.true _ (c.choose-in-four.ensures.answer, c.choose-in-four.ensures.zone)
-    refl c.if-choose-4.true in
-    record { answer = r.0; zone = r.1 }
+    turn_ends c.four.invariant c.as_slice-four.ensures _ c.four-test.true _ c.choose-in-four.ensures
+    refl c.if-choose-4.true

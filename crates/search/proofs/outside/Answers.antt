@@ -4,7 +4,8 @@ use mathlib.Core.Path.{◌≡◌, refl, ap, ◌∙◌}
 use lib.ListN.{length}
 use Rattle.conditions.proofs.Lists.{reached_length}
 use Rattle.base.proofs.Options.{none_of}
-use Rattle.conditions.proofs.Meeting.{Ends, ends_none, within}
+use Rattle.conditions.specs.Meeting.{Ends}
+use Rattle.conditions.proofs.Meeting.{ends_none, within}
 use Rattle.conditions.proofs.Turns.{turns_start, turns_row, turns_end, turn_asks, turn_without, turn_passed, turn_with}
 use Rattle.search.specs.Search.{outside}
 use Rattle.search.proofs.outside.Goals as goal
@@ -29,7 +30,7 @@ second-preserved g c = elim c.if-lay_pair.branch [
   | then-lay_pair+else-broken s ↦ record {
     not_yet = c.second.invariant.not_yet;
     left = turn_passed _ _ c.first-test.true c.second-test.true _ (c.lay_pair.ensures.answer, c.lay_pair.ensures.zone) _ c.second.invariant.left s.if-lay_pair.true
-        (none_of _ s.broken.ensures.answer s.if-broken.false);
+        (none_of _ s.broken.ensures.0 s.if-broken.false);
   }
   | else-lay_pair s ↦ record {
     not_yet = c.second.invariant.not_yet;
@@ -47,13 +48,11 @@ first-preserved g c = record {
 pub returns-after-first : goal.returns-after-first
 unfolding outside
 returns-after-first g c =
-    let r : Ends _ c.first.found c.first.out = rw c.first.invariant.not_yet
-    (ends_none _ (turns_end _ _ _ _ c.first.invariant.left (omega (arith, c.first-test.false)))) in
-    record { answer = r.0; zone = r.1 }
+    rw c.first.invariant.not_yet
+    (ends_none _ (turns_end _ _ _ _ c.first.invariant.left (omega (arith, c.first-test.false))))
 
 pub returns-then-broken : goal.returns-then-broken
 unfolding outside
 returns-then-broken g c =
-    let r = within _ (c.broken.ensures.answer, c.broken.ensures.zone) c.if-broken.true
-    (λ u. turn_with _ _ c.first-test.true c.second-test.true _ (c.lay_pair.ensures.answer, c.lay_pair.ensures.zone) _ c.second.invariant.left c.if-lay_pair.true) in
-    record { answer = r.0; zone = r.1 }
+    within _ c.broken.ensures c.if-broken.true
+    (λ u. turn_with _ _ c.first-test.true c.second-test.true _ (c.lay_pair.ensures.answer, c.lay_pair.ensures.zone) _ c.second.invariant.left c.if-lay_pair.true)

@@ -5,7 +5,7 @@ use mathlib.Core.Bool.{false≢true}
 use Rattle.base.proofs.Options.{none_of}
 use Rattle.job.specs.Meaning.{condition_of}
 use Rattle.conditions.specs.Meeting.{always}
-use Rattle.conditions.proofs.Meeting.{Ends}
+use Rattle.conditions.specs.Meeting.{Ends}
 use Rattle.verdict.specs.Found.{without}
 use Rattle.verdict.proofs.Searching.{always_fits, outside_asks, searched}
 use Rattle.verdict.proofs.Finding.{Passed, passes, shows_1, shows_2, shows_neither}
@@ -16,7 +16,7 @@ use Rattle.verdict.proofs.find_one.Goals.{Joined-else-differ, After-outside, els
 pub returns-then-met : goal.returns-then-met
 returns-then-met g c =
     let r = shows_1 c.args.z.now c.args.differ (condition_of c.args.keeps.now)
-    (condition_of c.args.wants.now) _ c.if-differ.true (c.met.ensures.answer, c.met.ensures.zone) c.if-met.true in
+    (condition_of c.args.wants.now) _ c.if-differ.true c.met.ensures c.if-met.true in
     record { kind = r.0; zone = r.1 }
 
 pub outside-requires : goal.outside-requires
@@ -36,7 +36,7 @@ outside-requires g c =
 -- the first search found nothing, or wasn't made
 passed : (g : Over) (c : Joined-else-differ g) → Passed c.args.z.now c.args.differ (condition_of c.args.wants.now)
 passed g c = passes _ _ _ (λ made. elim c.else-differ.branch [
-  | else-differ-via-then-differ+else-met s ↦ none_of _ s.met.ensures.answer s.if-met.false
+  | else-differ-via-then-differ+else-met s ↦ none_of _ s.met.ensures.0 s.if-met.false
   | else-differ-via-else-differ s ↦ absurd (false≢true (sym s.if-differ.false ∙ made))
 ])
 
@@ -46,7 +46,7 @@ found : (g : Over) (c : After-outside g)
 found g c =
     let put = c.put_choices.ensures in
     let first : condition_of c.always-always.result ≡ always = rw c.always-always.ensures refl in
-    rw first at (searched _ c.requires.searches.first _ put.ways put.size _ _ (c.outside.ensures.answer, c.outside.ensures.zone))
+    rw first at (searched _ c.requires.searches.first _ put.ways put.size _ _ c.outside.ensures)
 
 pub returns-then-outside : goal.returns-then-outside
 returns-then-outside g c =

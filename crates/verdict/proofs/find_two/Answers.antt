@@ -21,7 +21,7 @@ outside-requires g c =
 pub returns-then-outside : goal.returns-then-outside
 returns-then-outside g c =
     let put = c.put_choices.ensures in
-    let ends = searched _ c.requires.third _ put.ways put.size _ _ (c.outside.ensures.answer, c.outside.ensures.zone) in
+    let ends = searched _ c.requires.third _ put.ways put.size _ _ c.outside.ensures in
     let r = shows_3 _ _ _ _ (some_apart (at c.args.rows.now.twin) c.args.cs.now) _ ends c.if-outside.true in
     record { kind = r.0; zone = r.1 }
 
@@ -30,16 +30,16 @@ passed : (g : Over) (c : Else-outside g)
     → without c.args.z.now (condition_of c.args.keeps.now) (condition_of c.args.wants.now) (condition_of c.args.others.now) ≡ none
 passed g c =
     let put = c.put_choices.ensures in
-    none_of _ (searched _ c.requires.third _ put.ways put.size _ _ (c.outside.ensures.answer, c.outside.ensures.zone)).0 c.if-outside.false
+    none_of _ (searched _ c.requires.third _ put.ways put.size _ _ c.outside.ensures).0 c.if-outside.false
 
 pub returns-then-differ : goal.returns-then-differ
 returns-then-differ g c =
     let r = shows_4 _ _ _ _ (some_apart (at c.args.rows.now.twin) c.args.cs.now) _ (passed g ((goal.at.returns-then-differ g c).Else-outside))
-    (c.differ.ensures.answer, c.differ.ensures.zone) c.if-differ.true in
+    c.differ.ensures c.if-differ.true in
     record { kind = r.0; zone = r.1 }
 
 pub returns : goal.returns
 returns g c =
     let r = shows_none _ _ _ _ (some_apart (at c.args.rows.now.twin) c.args.cs.now) _ (passed g ((goal.at.returns g c).Else-outside))
-    (c.differ.ensures.answer, c.differ.ensures.zone) c.if-differ.false in
+    c.differ.ensures c.if-differ.false in
     record { kind = r.0; zone = r.1 }

@@ -10,8 +10,7 @@ use Rattle.twins.proofs.TwinRows.differ.Goals.{else-lay_pair-via-then-lay_pair+e
 
 pub returns-then-all_shared : goal.returns-then-all_shared
 returns-then-all_shared g c =
-    let r = ends_none _ (none_shared c.requires c.nodes.ensures.closed c.all_shared.ensures c.if-all_shared.true) in
-    record { answer = r.0; zone = r.1 }
+    ends_none _ (none_shared c.requires c.nodes.ensures.closed c.all_shared.ensures c.if-all_shared.true)
 
 pub loop-first-init : goal.loop-first-init
 loop-first-init g c = turns_start _ _ _ _
@@ -25,17 +24,16 @@ separate-requires g c =
 
 pub returns-then-separate : goal.returns-then-separate
 returns-then-separate g c =
-    let r = within _ (c.separate.ensures.answer, c.separate.ensures.zone) c.if-separate.true
+    within _ c.separate.ensures c.if-separate.true
     (λ w. turn_with _ _ c.loop-first-test.true c.loop-second-test.true _ (c.lay_pair.ensures.answer, c.lay_pair.ensures.zone) _
-    c.loop-second.invariant c.if-lay_pair.true) in
-    record { answer = r.0; zone = r.1 }
+    c.loop-second.invariant c.if-lay_pair.true)
 
 pub loop-second-preserved : goal.loop-second-preserved
 loop-second-preserved g c =
     elim c.else-lay_pair.branch [
       | else-lay_pair-via-then-lay_pair+else-separate w ↦
           turn_passed _ _ c.loop-first-test.true c.loop-second-test.true _ (c.lay_pair.ensures.answer, c.lay_pair.ensures.zone) _
-          c.loop-second.invariant w.if-lay_pair.true (none_of _ w.separate.ensures.answer w.if-separate.false)
+          c.loop-second.invariant w.if-lay_pair.true (none_of _ w.separate.ensures.0 w.if-separate.false)
       | else-lay_pair-via-else-lay_pair w ↦
           turn_without _ _ c.loop-first-test.true c.loop-second-test.true _ (c.lay_pair.ensures.answer, c.lay_pair.ensures.zone) _
           c.loop-second.invariant w.if-lay_pair.false
@@ -48,5 +46,4 @@ loop-first-preserved g c =
 
 pub returns : goal.returns
 returns g c =
-    let r = ends_none _ (turns_end _ _ _ _ c.loop-first.invariant (omega (arith, c.loop-first-test.false))) in
-    record { answer = r.0; zone = r.1 }
+    ends_none _ (turns_end _ _ _ _ c.loop-first.invariant (omega (arith, c.loop-first-test.false)))

@@ -25,15 +25,13 @@ returns-then-impose g c =
       | then-impose-via-then-impose w ↦
           let less = found _ _ _ _ h c.from-in-loop-c.ensures c.loop-c.invariant.0 Less c.from.ensures
           (c.impose.ensures.answer, c.impose.ensures.zone) w.if-impose.true in
-          let r = less_apart _ _ _ _ h c.loop-c.invariant.1 less in
-          record { answer = r.0; zone = rw w.z-is r.1 }
+          rw w.z-is (less_apart _ _ _ _ h c.loop-c.invariant.1 less)
       | then-impose-via-else-impose+then-impose-2 w ↦
           let less = stays _ _ _ _ h c.from-in-loop-c.ensures c.loop-c.invariant.0 Less c.from.ensures
           (c.impose.ensures.answer, c.impose.ensures.zone) w.if-impose.false in
           let more = found _ _ _ _ h c.from-in-loop-c.ensures less.1 More c.from-in-loop-c-2.ensures
           (w.impose-else-impose.ensures.answer, w.impose-else-impose.ensures.zone) w.if-impose-2.true in
-          let r = more_apart _ _ _ _ h c.loop-c.invariant.1 less.0 more in
-          record { answer = r.0; zone = rw w.z-is r.1 }
+          rw w.z-is (more_apart _ _ _ _ h c.loop-c.invariant.1 less.0 more)
     ]
 
 pub loop-c-preserved : goal.loop-c-preserved
@@ -47,5 +45,4 @@ loop-c-preserved g c =
 
 pub returns : goal.returns
 returns g c =
-    let r = no_columns _ _ _ c.loop-c.c-index (omega (arith, c.loop-c-test.false)) c.loop-c.invariant.1 _ in
-    record { answer = r.0; zone = r.1 }
+    no_columns _ _ _ c.loop-c.c-index (omega (arith, c.loop-c-test.false)) c.loop-c.invariant.1 _
