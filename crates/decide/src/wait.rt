@@ -6,14 +6,14 @@ use std::thread;
 use std::time::{Clock, Duration};
 
 // How long a stream is waited for in all, and between two tries, in nanoseconds.
-pub const TIMEOUT: usize = 5_000_000_000;
+pub const TIMEOUT: u64 = 5_000_000_000;
 
-const PAUSE: usize = 10_000_000;
+const PAUSE: u64 = 10_000_000;
 
 // What is left of the time after a call that failed just now, for this reason; nothing where it isn't to be tried again. A
 // call that would have blocked is tried again after a pause. One that a signal interrupted is tried again at once, which
 // counts for a nanosecond, so that a loop of tries ends.
-pub fn again(clock: &impl Clock, reason: ErrorKind, left: usize) -> Option<usize>
+pub fn again(clock: &impl Clock, reason: ErrorKind, left: u64) -> Option<u64>
     ensures less { IfSome result (λ n. n < left) }
     ensures interrupted { PAUSE < left → reason ≡ ErrorKind.Interrupted → result ≡ Some (left - 1) }
     ensures blocked { PAUSE < left → reason ≡ ErrorKind.WouldBlock → result ≡ Some (left - PAUSE) }
@@ -34,5 +34,5 @@ pub fn again(clock: &impl Clock, reason: ErrorKind, left: usize) -> Option<usize
 
 // A signal doesn't shorten it.
 fn pause(clock: &impl Clock) {
-    thread::sleep(clock, Duration::from_nanos(PAUSE as u64));
+    thread::sleep(clock, Duration::from_nanos(PAUSE));
 }

@@ -133,12 +133,12 @@ fn solve(s: &[u8], bounds: &mut [Bounds], list: &mut [Comparison], row: &mut [i3
     }
 }
 
-// A byte and the values of a row.
-fn put(first: u8, row: &[i32], out: &mut [u8])
+// The number of what was found and the values of a row.
+fn put(found: Found, row: &[i32], out: &mut [u8])
     requires { length out.old ≡ length row.now * 4 + 1 }
-    ensures { out.new ≡ first ∷ flat_map row.now (encoded 4) }
+    ensures { out.new ≡ number_of_found found ∷ flat_map row.now (encoded 4) }
 {
-    out[0] = first;
+    out[0] = u8::from(found);
     for (i, v) in row.iter().enumerate() {
         words::write(out, i * 4 + 1, *v);
     }
@@ -155,6 +155,6 @@ pub fn answer(n: usize, m: usize, s: &[u8], out: &mut [u8]) -> Found
     let mut list = [Comparison::default(); COMPARISONS];
     let mut row = [0i32; COLUMNS];
     let found = solve(s, &mut bounds[..n], &mut list[..m], &mut row[..n]);
-    put(u8::from(found), &row[..n], out);
+    put(found, &row[..n], out);
     found
 }

@@ -11,7 +11,7 @@ ghost use Rattle.report.specs.Printed.{printed, record_text};
 
 use base::Output;
 use job::Job;
-use layout::Fault;
+use layout::Refusal;
 use model::{Held, Kind};
 
 // Enough bytes for every text: a verdict would take as many if its kind and the listing of 16 columns had three digits each.
@@ -49,12 +49,12 @@ fn put_columns(out: &mut Output, columns: &[Held])
 }
 
 // The text of a refusal.
-fn refusal(out: &mut Output, fault: Fault, at: usize)
-    requires { Room out.old (refusal_text (number_of_fault fault) at) }
-    ensures { Puts out.old out.new (refusal_text (number_of_fault fault) at) }
+fn refusal(out: &mut Output, r: Refusal)
+    requires { Room out.old (refusal_text (number_of_fault r.fault) r.at) }
+    ensures { Puts out.old out.new (refusal_text (number_of_fault r.fault) r.at) }
 {
-    put_field(out, b"refused ", usize::from(u8::from(fault)));
-    put_field(out, b" at ", at);
+    put_field(out, b"refused ", usize::from(u8::from(r.fault)));
+    put_field(out, b" at ", r.at);
     out.put(b'\n');
 }
 
@@ -77,7 +77,7 @@ fn decided(out: &mut Output, job: Job)
     let width = job.declared.width;
     match pobghine::decide(job) {
         Ok(v) => verdict(out, v.kind, &v.listing[..width]),
-        Err(r) => refusal(out, r.fault, r.at),
+        Err(r) => refusal(out, r),
     }
 }
 
@@ -90,7 +90,7 @@ pub fn text(s: &[u8], out: &mut [u8]) -> usize
     let mut to = Output { bytes: out, at: 0 };
     match pobghine::read(s) {
         Ok(job) => decided(&mut to, job),
-        Err(r) => refusal(&mut to, r.fault, r.at),
+        Err(r) => refusal(&mut to, r),
     }
     to.at
 }

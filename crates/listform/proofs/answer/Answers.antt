@@ -5,4 +5,4 @@ use Rattle.listform.proofs.answer.Goals as goal
 
 pub returns-clause-bytes : goal.returns-clause-bytes
 returns-clause-bytes c =
-    c.put.ensures ∙ rw c.from.ensures (bytes _ _ _ c.requires _ _ c.solve-found.ensures.found _ c.solve-found.auto.row c.solve-found.ensures.row)
+    c.put.ensures ∙ (bytes _ _ _ c.requires _ _ c.solve-found.ensures.found _ c.solve-found.auto.row c.solve-found.ensures.row)

@@ -6,15 +6,15 @@ use Rattle.report.proofs.Rooms.{room_number, room_position, room_refused}
 use Rattle.report.proofs.refusal.Goals as goal
 
 pub put_field-requires : goal.put_field-requires
-put_field-requires c = rw (c.from-2.ensures, c.from.ensures) (room_number (number_of_fault c.args.fault) c.args.at c.requires)
+put_field-requires c = rw (c.from-2.ensures, c.from.ensures) (room_number (number_of_fault c.args.r.fault) c.args.r.at c.requires)
 
 pub put_field-requires-2 : goal.put_field-requires-2
 put_field-requires-2 c =
-    room_position (number_of_fault c.args.fault) c.args.at c.requires (rw (c.from-2.ensures, c.from.ensures) at c.put_field.ensures)
+    room_position (number_of_fault c.args.r.fault) c.args.r.at c.requires (rw (c.from-2.ensures, c.from.ensures) at c.put_field.ensures)
 
 pub put-requires : goal.put-requires
 put-requires c =
-    room_refused (number_of_fault c.args.fault) c.args.at c.requires
+    room_refused (number_of_fault c.args.r.fault) c.args.r.at c.requires
     (and_then_lem (rw (c.from-2.ensures, c.from.ensures) at c.put_field.ensures) c.put_field-2.ensures)
 
 pub returns : goal.returns
