@@ -2,7 +2,6 @@
 use Rattle.std.specs.Prelude.{◌≡◌, List, ℕ, ◌<◌, ◌≤◌, length, ℤ}
 use Rattle.zone.specs.Zone.{Zone, columns_of, least_of}
 use Rattle.solver.specs.Uses.{WordNodes}
-use Rattle.job.specs.declared.Expression.{Expression}
 use Rattle.job.specs.declared.Columns.{Columns}
 use Rattle.twins.specs.Uses.{TwinsStand}
 use Rattle.databases.specs.Databases.{table_at}
@@ -33,8 +32,3 @@ pub record PairsTwo (k : Columns) (twin : List ℕ) (z : Zone) : Type 0 where
 pub record PairsBy (k : Columns) (twin : List ℕ) (kind : ℕ) (z : Zone) : Type 0 where
   pub one : 0 < kind → kind < 3 → PairsOne k z
   pub two : 3 ≤ kind → PairsTwo k twin z
-
--- columns that are listed
-pub record ListsColumns (k : Columns) (extract : Expression) : Type 0 where
-  pub width : k.width ≤ 16
-  pub stored : extract.width ≤ 16

@@ -10,7 +10,7 @@ ghost use Rattle.job.specs.Meaning.{expression_of};
 ghost use Rattle.databases.specs.Databases.{no_database, database_record, present_in, row_record, reduced_record};
 ghost use Rattle.databases.specs.Databases.{least_in, one_pair, two_pair, pair_record};
 ghost use Rattle.databases.specs.Listing.{listed_at, listed_by};
-ghost use Rattle.databases.specs.Uses.{TablesFew, HasLeast, PairsOne, PairsTwo, PairsBy, ListsColumns};
+ghost use Rattle.databases.specs.Uses.{TablesFew, HasLeast, PairsOne, PairsTwo, PairsBy};
 
 use job::{Columns, Expression, Job};
 use model::{Held, Kind};
@@ -73,7 +73,8 @@ fn present(e: &Expression, f: &Expression) -> [bool; Job::TABLES]
     present
 }
 
-// A row's values in the tables that are present.
+// A row's values in the tables that are present. Here and below `TablesFew` is no type's: a lent record may name any table, and it is judged
+// before. And columns, extract and query stay three, since contracts name one or two of them as often as all.
 fn database_of(k: &Columns, present: [bool; Job::TABLES], row: [i32; Job::COLUMNS]) -> Database
     requires { TablesFew k.now }
     ensures { result ≡ database_record k.now present row }
@@ -196,7 +197,7 @@ pub fn pair_of<const N: usize>(
 // ---- The listing
 
 fn listed(k: &Columns, extract: &Expression, marks: [bool; Job::COLUMNS], c: usize) -> Held
-    requires { ListsColumns k.now extract.now × (c < 16) }
+    requires { (k.now.width ≤ 16) × (c < 16) }
     ensures { number_of_held result ≡ listed_at k.now extract.now marks c }
 {
     if !uses(extract, k.columns[c].table) {
@@ -216,7 +217,7 @@ pub fn listing_of(
     extract: &Expression,
     marks: [bool; Job::COLUMNS],
 ) -> [Held; Job::COLUMNS]
-    requires { ListsColumns k.now extract.now }
+    requires { k.now.width ≤ 16 }
     ensures { map number_of_held result ≡ listed_by k.now extract.now marks }
 {
     let mut listing = [Held::NotUsed; Job::COLUMNS];

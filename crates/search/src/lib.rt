@@ -66,8 +66,8 @@ fn exchange(
     other
 }
 
-// The lightest clause first: then a choice that leads nowhere shows early. The library's stable sort asks for a heap, and its other one
-// may put clauses of one weight in any order.
+// The lightest clause first: then a choice that leads nowhere shows early. The definition is these exchanges, and so clauses of one weight
+// stay in order; the library's stable sort asks for a heap, and its other one would want a key of weight and number.
 fn order_by(weights: [usize; Job::CLAUSES]) -> [usize; Job::CLAUSES]
     ensures { result ≡ order_by weights }
 {

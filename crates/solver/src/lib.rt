@@ -35,7 +35,8 @@ fn one(left: usize, right: usize, most: u64) -> Constraints
     }
 }
 
-// What is added to the right node of a comparison: the number, where that node is 0.
+// What is added to the right node of a comparison: the number, where that node is 0. The node is the record's number, which says both what
+// is compared and with what.
 fn added_to(right: u8, number: i32) -> u64
     ensures { result ≡ added_to (side_of right number) }
 {
@@ -113,13 +114,7 @@ impl OverNodes {
     fn by(&self, op: Op) -> Constraints
         ensures { result ≡ between op self.now.left self.now.right self.now.added }
     {
-        Self {
-            op,
-            left: self.left,
-            right: self.right,
-            added: self.added,
-        }
-        .constraints()
+        Self { op, ..*self }.constraints()
     }
 
     // The ways in which it fails: the constraints of the ops that hold where this one doesn't.

@@ -42,7 +42,7 @@ use Rattle.twins.specs.Records.{twins_of, twins_record, renamed_clause, renamed_
 use Rattle.twins.specs.Uses.{Paired, Partners, Renames, Marks}
 use Rattle.twins.proofs.Twinned.{record_columns, record_bounds, twin_at, twin_names, twins_stand}
 use Rattle.twins.proofs.Names.{compares, twins_renamed}
-use Rattle.databases.specs.Uses.{TablesFew, HasLeast, PairsOne, PairsTwo, ListsColumns}
+use Rattle.databases.specs.Uses.{TablesFew, HasLeast, PairsOne, PairsTwo}
 use Rattle.verdict.specs.Found.{without, twin, both_bounds, keeps_one, keeps_other, wants_one, wants_other, box, box2, found1, found2, found3, found4, unfixed_in}
 use Rattle.verdict.specs.Uses.{FindsOne, FindsTwo, Given, Decides, both_rows}
 use Rattle.verdict.proofs.Limits.{taken, both_fit, both_most, keeps_one_lem, keeps_other_lem, wants_one_lem, wants_other_lem, first_most, column_below, twin_below}
@@ -315,9 +315,6 @@ module _ {k : Columns} {extract query : Expression} {rows : TwinRows} (u : Decid
   -- ---- what the databases and the listing ask
   few_tables : TablesFew k
   few_tables = record { width = width_most; tables = λ c. tables_below r g.laid c no_column }
-
-  pub lists_columns : ListsColumns k extract
-  lists_columns = record { width = width_most; stored = outputs_fit j.extract extract (extract_is r g.laid) size.extract }
 
   pub pairs_one : {z : Zone} → columns_of z ≡ k.width → HasLeast z → PairsOne k z
   pairs_one same least = record { few = few_tables; first_in = omega (arith, same); least = least }

@@ -10,12 +10,12 @@ pub loop-c-init : goal.loop-c-init
 loop-c-init c = pass_start _ _ _ _
 
 pub listed-requires : goal.listed-requires
-listed-requires c = (c.requires, omega (arith, c.loop-c-test.true, front_size {A = Held} Held.NotUsed c.requires.width, c.requires.width))
+listed-requires c = (c.requires, omega (arith, c.loop-c-test.true, front_size {A = Held} Held.NotUsed c.requires, c.requires))
 
 pub loop-c-preserved : goal.loop-c-preserved
 loop-c-preserved c = rw (map-set number_of_held c.loop-c.held-items c.loop-c.c c.listed.result)
-    (front_turn c.loop-c.invariant (omega (arith, c.loop-c-test.true, front_size {A = Held} Held.NotUsed c.requires.width)) c.listed.ensures)
+    (front_turn c.loop-c.invariant (omega (arith, c.loop-c-test.true, front_size {A = Held} Held.NotUsed c.requires)) c.listed.ensures)
 
 pub returns : goal.returns
 returns c =
-    listed_all _ _ _ c.requires.width _ c.loop-c.invariant (omega (arith, c.loop-c-test.false, front_size {A = Held} Held.NotUsed c.requires.width))
+    listed_all _ _ _ c.requires _ c.loop-c.invariant (omega (arith, c.loop-c-test.false, front_size {A = Held} Held.NotUsed c.requires))

@@ -12,7 +12,7 @@ use Rattle.job.specs.Meaning.{job_of, problem}
 use Rattle.job.proofs.Records.{Sized}
 use Rattle.twins.proofs.Marking.{marked_cong}
 use Rattle.verdict.specs.Found.{unfixed_in}
-use Rattle.verdict.proofs.Ready.{sizes, width_of, width_most, columns_most, keeps_renames, wants_renames, one_asks, one_box, one_finds, two_asks, two_box, two_finds, marks_two, finds_unfixed, lists_columns, tables_told}
+use Rattle.verdict.proofs.Ready.{sizes, width_of, width_most, columns_most, keeps_renames, wants_renames, one_asks, one_box, one_finds, two_asks, two_box, two_finds, marks_two, finds_unfixed, tables_told}
 use Rattle.verdict.proofs.Told.{Told, none_found, some_found, told_first, told_second}
 use Rattle.verdict.proofs.Handing.{pairs_asked, pair_handed_out, listing_told}
 use Rattle.verdict.proofs.Decided.{kind_found}
@@ -101,7 +101,7 @@ mark_pairs-requires g c =
     )
 
 pub listing_of-requires : goal.listing_of-requires
-listing_of-requires g c = lists_columns c.requires.decides (sizes c.well_formed)
+listing_of-requires g c = width_most c.requires.decides (sizes c.well_formed)
 
 pub returns : goal.returns
 returns g c =
