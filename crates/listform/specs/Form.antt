@@ -67,6 +67,12 @@ number_of_found NoList = 2
 unfoldable pub row_for : ℕ → ℕ → List ℕ → List ℤ
 row_for n m s = cond (is_list n m s) (row_or_zeros n (least n m s)) (replicate n (pos 0))
 
--- the bytes that are written; of what is no list the first alone is the answer
+-- how many bytes of what is written are the answer to a list of n columns: of what is no list the first alone
+abbrev pub count_of : Found → ℕ → ℕ
+count_of NoList n = 1
+count_of Met n = n * 4 + 1
+count_of Unmet n = n * 4 + 1
+
+-- the bytes that are written
 unfoldable pub written : ℕ → ℕ → List ℕ → List ℕ
 written n m s = number_of_found (found_in n m s) ∷ flat_map (row_for n m s) (encoded 4)

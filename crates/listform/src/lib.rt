@@ -16,6 +16,7 @@ ghost use Rattle.listform.specs.Form.{
   is_list,
   least,
   number_of_found,
+  count_of,
   found_in,
   written,
 };
@@ -42,6 +43,19 @@ pub enum Found {
     Met,
     // The bytes are no list.
     NoList,
+}
+
+impl Found {
+    // How many bytes the answer to a list of n columns has: of what is no list the first alone.
+    pub fn count(self, n: usize) -> usize
+        requires { n ≤ 32 }
+        ensures { result ≡ count_of self n }
+    {
+        match self {
+            Found::NoList => 1,
+            Found::Unmet | Found::Met => n * 4 + 1,
+        }
+    }
 }
 
 impl From<Found> for u8 {
@@ -144,8 +158,8 @@ fn put(found: Found, row: &[i32], out: &mut [u8])
     }
 }
 
-// Answers a list of n columns and m comparisons, and says what was found. A caller has read n and m, which come first. The answer is all of
-// `out`, but of bytes that are no list the first byte alone.
+// Answers a list of n columns and m comparisons, and says what was found, which tells how many of the bytes are the answer. A caller has
+// read n and m, which come first.
 pub fn answer(n: usize, m: usize, s: &[u8], out: &mut [u8]) -> Found
     requires { Room n m s.now out.old }
     ensures found { result ≡ found_in n m s.now }

@@ -37,9 +37,11 @@ fn answer_list<R: Read, W: Write>(
     if input.read_exact(s).is_err() {
         return Err(refuse(output));
     }
-    match listform::answer(n, m, s, out) {
-        Found::NoList => Err(refuse(output)),
-        Found::Unmet | Found::Met => output.write_all(out),
+    let found = listform::answer(n, m, s, out);
+    output.write_all(&out[..found.count(n)])?;
+    match found {
+        Found::NoList => Err(ErrorKind::InvalidData.into()),
+        Found::Unmet | Found::Met => Ok(()),
     }
 }
 
