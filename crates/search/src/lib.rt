@@ -38,7 +38,8 @@ fn count_allowed<const N: usize>(z: &Zone<N>, ways: &[Constraint]) -> usize
         .count()
 }
 
-// What each clause weighs: as much as it has ways that some row takes.
+// What each clause weighs: as much as it has ways that some row takes. By places, as wherever elements are written in step with another list: in
+// a zip a proof doesn't reach what the written ones become.
 fn weigh<const N: usize>(z: &Zone<N>, k: &Choices) -> [usize; Job::CLAUSES]
     requires { Weighs (length z.now) k.now }
     ensures { result ≡ weights z.now k.now.clauses (choices_in k.now) }
