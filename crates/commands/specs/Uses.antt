@@ -1,8 +1,6 @@
 -- What the functions on commands answer and what they may rely on: entries added to a record, and the checks of a command's operands.
-use Rattle.std.specs.Prelude.{◌≡◌, Bool, true, cond, ◌&&◌, [], ℕ, ◌+◌, ◌-◌, ◌<◌, ◌≤◌, length, get_or, set, ℤ, T, eqb, Some, Result}
+use Rattle.std.specs.Prelude.{◌≡◌, Bool, true, cond, [], ℕ, ◌+◌, ◌-◌, ◌<◌, ◌≤◌, length, get_or, set, T, eqb, Some, Result}
 use Rattle.std.specs.Prelude.{Ok, Err}
-use Rattle.std.specs.Int.Signed.{le_z}
-use Rattle.model.specs.WellFormed.{in_range}
 use Rattle.words.specs.Compare.{op_at}
 use Rattle.job.specs.declared.Column.{Column}
 use Rattle.job.specs.declared.Comparison.{Comparison}
@@ -113,9 +111,6 @@ Fits q r (PartAdded x) = PartFits (current_in q r) x
 Fits q r Nothing = T true
 
 -- ---- The checks 7 to 10
-
-abbrev pub bounds_fit : ℤ → ℤ → Bool
-bounds_fit lo hi = in_range lo && in_range hi && le_z lo hi
 
 -- refusal n, unless the check is passed
 abbrev pub judge : ℕ → Bool → Result Addition Fault → Result Addition Fault

@@ -8,10 +8,10 @@ ghost use Rattle.model.specs.Tables.{columns_of};
 ghost use Rattle.model.specs.WellFormed.{in_scope, in_range};
 ghost use Rattle.job.specs.Meaning.{expression_record, record_of};
 ghost use Rattle.layout.specs.declared.Command.TheVariants.{NextColumn, TableUsed, OutputColumn, NumberCompared, ColumnCompared};
-ghost use Rattle.layout.specs.Commands.{command_of, operands, in_condition, ending, before};
-ghost use Rattle.layout.specs.Reading.{starts, current, follows, has_room, has_operands, above_last};
+ghost use Rattle.layout.specs.Commands.{command_of, operands, in_condition, ending, before, add_column};
+ghost use Rattle.layout.specs.Reading.{starts, current, follows, has_room, has_operands, in_ranges, above_last};
 ghost use Rattle.commands.specs.Reached.{started};
-ghost use Rattle.commands.specs.Uses.{bounds_fit, part_more, grown, judged_at, taken_at, refused_at, stepped_of, PartFits, Fits, Ready};
+ghost use Rattle.commands.specs.Uses.{part_more, grown, judged_at, taken_at, refused_at, stepped_of, PartFits, Fits, Ready};
 
 use job::{Column, Comparison, Expression, Job};
 use layout::{Command, Fault};
@@ -131,14 +131,14 @@ fn is_ending(last: u8) -> bool
 fn in_range(v: i32) -> bool
     ensures { result ≡ in_range v }
 {
-    Job::LOWEST <= v && v <= Job::HIGHEST
+    (Job::LOWEST..=Job::HIGHEST).contains(&v)
 }
 
-// Whether lo and hi are in range, and lo is at most hi.
-fn are_bounds(lo: i32, hi: i32) -> bool
-    ensures { result ≡ bounds_fit lo hi }
+// Whether a column's bounds are in range, and lo is at most hi.
+fn are_bounds(b: Bounds) -> bool
+    ensures { result ≡ in_ranges (add_column b.lo b.hi) }
 {
-    in_range(lo) && in_range(hi) && lo <= hi
+    in_range(b.lo) && in_range(b.hi) && b.lo <= b.hi
 }
 
 // ---- What has been read
@@ -319,14 +319,15 @@ impl<'a> Progress<'a> {
         requires { (follows self.now.state NextColumn ≡ true) × (self.now.at + 9 ≤ length self.now.bytes) }
         ensures { result ≡ judged_at self.now NextColumn }
     {
-        let lo = words::read(self.bytes, self.at + 1);
-        let hi = words::read(self.bytes, self.at + 5);
-        if !are_bounds(lo, hi) {
+        let bounds = Bounds {
+            lo: words::read(self.bytes, self.at + 1),
+            hi: words::read(self.bytes, self.at + 5),
+        };
+        if !are_bounds(bounds) {
             return Err(Fault::OutOfRange);
         }
         // The table that was declared last.
         let table = (self.tables() - 1) as u8;
-        let bounds = Bounds { lo, hi };
         Ok(Addition::Column(Column { table, bounds }))
     }
 
