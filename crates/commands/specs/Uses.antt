@@ -113,7 +113,7 @@ Fits q r Nothing = T true
 -- ---- The checks 7 to 10
 
 -- refusal n, unless the check is passed
-abbrev pub judge : ℕ → Bool → Result Addition Fault → Result Addition Fault
+abbrev pub judge : {A : Type 0} → ℕ → Bool → Result A Fault → Result A Fault
 judge n passed rest = cond passed rest (Err (fault_of n))
 
 -- what an entry adds

@@ -2,7 +2,7 @@
 // the record.
 #![tactic(auto)]
 
-ghost use Rattle.std.specs.Prelude.{◌≡◌, true, ◌+◌, ◌≤◌, ◌<◌, length, get_or, eqb, leb};
+ghost use Rattle.std.specs.Prelude.{◌≡◌, true, ◌+◌, ◌≤◌, ◌<◌, length, get_or, eqb, leb, Ok, IfOk};
 ghost use Rattle.base.specs.Lists.{any_of};
 ghost use Rattle.model.specs.Tables.{columns_of};
 ghost use Rattle.model.specs.WellFormed.{in_scope, in_range};
@@ -11,7 +11,7 @@ ghost use Rattle.layout.specs.declared.Command.TheVariants.{NextColumn, TableUse
 ghost use Rattle.layout.specs.Commands.{command_of, operands, in_condition, ending, before, add_column};
 ghost use Rattle.layout.specs.Reading.{starts, current, follows, has_room, has_operands, in_ranges, above_last};
 ghost use Rattle.commands.specs.Reached.{started};
-ghost use Rattle.commands.specs.Uses.{part_more, grown, judged_at, taken_at, refused_at, stepped_of, PartFits, Fits, Ready};
+ghost use Rattle.commands.specs.Uses.{part_more, grown, judge, judged_at, taken_at, refused_at, stepped_of, PartFits, Fits, Ready};
 
 use job::{Column, Comparison, Expression, Job};
 use layout::{Command, Fault};
@@ -314,6 +314,32 @@ impl<'a> Progress<'a> {
 
     // ---- A command's operands, by the checks 7 to 10 in this order
 
+    // The op at a place, if the byte is an op's.
+    fn op_at(&self, at: usize) -> Result<u8, Fault>
+        requires { at < length self.now.bytes }
+        ensures { result ≡ judge 8 (leb (get_or self.now.bytes at 0) 4) (Ok (get_or self.now.bytes at 0)) }
+    {
+        let op = self.bytes[at];
+        if !words::is_op(op) {
+            return Err(Fault::UnknownOp);
+        }
+        Ok(op)
+    }
+
+    // The column at a place, if it is in scope.
+    fn column_at(&self, at: usize) -> Result<u8, Fault>
+        requires { at < length self.now.bytes }
+        ensures judged { result ≡ judge 9 (in_scope self.now.state.job.tables (current self.now.state) (get_or self.now.bytes at 0))
+            (Ok (get_or self.now.bytes at 0)) }
+        ensures within { IfOk result (λ c. c < 16) }
+    {
+        let c = self.bytes[at];
+        if !self.is_in_scope(c) {
+            return Err(Fault::Undeclared);
+        }
+        Ok(c)
+    }
+
     // 11: lo, hi.
     fn next_column(&self) -> Result<Addition, Fault>
         requires { (follows self.now.state NextColumn ≡ true) × (self.now.at + 9 ≤ length self.now.bytes) }
@@ -351,10 +377,7 @@ impl<'a> Progress<'a> {
         requires { self.now.at + 2 ≤ length self.now.bytes }
         ensures { result ≡ judged_at self.now OutputColumn }
     {
-        let c = self.bytes[self.at + 1];
-        if !self.is_in_scope(c) {
-            return Err(Fault::Undeclared);
-        }
+        let c = self.column_at(self.at + 1)?;
         if self.is_output(c) {
             return Err(Fault::NotNew);
         }
@@ -370,14 +393,8 @@ impl<'a> Progress<'a> {
         if !in_range(number) {
             return Err(Fault::OutOfRange);
         }
-        let op = self.bytes[self.at + 1];
-        if !words::is_op(op) {
-            return Err(Fault::UnknownOp);
-        }
-        let left = self.bytes[self.at + 2];
-        if !self.is_in_scope(left) {
-            return Err(Fault::Undeclared);
-        }
+        let op = self.op_at(self.at + 1)?;
+        let left = self.column_at(self.at + 2)?;
         let k = Comparison {
             op,
             left,
@@ -392,18 +409,9 @@ impl<'a> Progress<'a> {
         requires { self.now.at + 4 ≤ length self.now.bytes }
         ensures { result ≡ judged_at self.now ColumnCompared }
     {
-        let op = self.bytes[self.at + 1];
-        if !words::is_op(op) {
-            return Err(Fault::UnknownOp);
-        }
-        let left = self.bytes[self.at + 2];
-        if !self.is_in_scope(left) {
-            return Err(Fault::Undeclared);
-        }
-        let right = self.bytes[self.at + 3];
-        if !self.is_in_scope(right) {
-            return Err(Fault::Undeclared);
-        }
+        let op = self.op_at(self.at + 1)?;
+        let left = self.column_at(self.at + 2)?;
+        let right = self.column_at(self.at + 3)?;
         let k = Comparison {
             op,
             left,
