@@ -45,7 +45,8 @@ pub fn is_start(s: &[u8]) -> bool
     s.starts_with(&layout::START)
 }
 
-// The command that a byte stands for. The bytes are matched over their ranges, as they are listed; std's TryFrom would want an error.
+// The command that a byte stands for. The bytes are matched over their ranges, as they are listed. By the definition a byte that is no
+// command's stands for none; what that means is said by reading.
 #[tactic(auto, unfolding(layout::specs::Commands::command_of))]
 pub fn command(b: u8) -> Option<Command>
     ensures { result ≡ command_of b }
@@ -95,8 +96,8 @@ pub fn operands(c: Command) -> usize
     }
 }
 
-// Whether a command may come after the last one, which is told by its byte, 0 at the start. Any byte may be asked about: a caller need not
-// make an Option<Command> of it.
+// Whether a command may come after the last one, which is told by its byte, 0 at the start: document 01, and so the definition of reading,
+// goes by that byte.
 pub fn follows(c: Command, last: u8, in_query: bool) -> bool
     ensures { result ≡ any_of (eqb last) (before in_query c) }
 {
