@@ -299,10 +299,7 @@ impl<'a> Progress<'a> {
     fn is_above(&self, t: u8) -> bool
         ensures { result ≡ above_last (current self.now.state).used t }
     {
-        match self.current().used_tables().last() {
-            None => true,
-            Some(u) => *u < t,
-        }
+        self.current().used_tables().last().is_none_or(|u| *u < t)
     }
 
     // Whether column c is an output already.
