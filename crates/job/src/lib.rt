@@ -25,6 +25,13 @@ pub struct Comparison {
     pub number: i32,
 }
 
+// The first `count` of a list, or all of it where there are no more.
+fn first<T>(list: &[T], count: usize) -> &[T]
+    ensures { result.now ≡ take count list.now }
+{
+    &list[..count.min(list.len())]
+}
+
 // The first `size` of the comparisons.
 #[derive(Clone, Copy, PartialEq, Eq, Default)]
 pub struct Clause {
@@ -32,11 +39,27 @@ pub struct Clause {
     pub comparisons: [Comparison; Job::COMPARISONS],
 }
 
+impl Clause {
+    pub fn comparisons(&self) -> &[Comparison]
+        ensures { result.now ≡ take self.now.size self.now.comparisons }
+    {
+        first(&self.comparisons, self.size)
+    }
+}
+
 // The first `size` of the clauses.
 #[derive(Clone, Copy, PartialEq, Eq, Default)]
 pub struct Condition {
     pub size: usize,
     pub clauses: [Clause; Job::CLAUSES],
+}
+
+impl Condition {
+    pub fn clauses(&self) -> &[Clause]
+        ensures { result.now ≡ take self.now.size self.now.clauses }
+    {
+        first(&self.clauses, self.size)
+    }
 }
 
 // The first `tables` of the used tables, the first `width` of the output columns, and the condition.
@@ -50,18 +73,16 @@ pub struct Expression {
 }
 
 impl Expression {
-    // The tables that it uses. A record that is lent may count more than its array holds.
     pub fn used_tables(&self) -> &[u8]
         ensures { result.now ≡ take self.now.tables self.now.used }
     {
-        &self.used[..self.tables.min(Job::TABLES)]
+        first(&self.used, self.tables)
     }
 
-    // Its output columns, likewise.
     pub fn output_columns(&self) -> &[u8]
         ensures { result.now ≡ take self.now.width self.now.outputs }
     {
-        &self.outputs[..self.width.min(Job::COLUMNS)]
+        first(&self.outputs, self.width)
     }
 }
 
@@ -72,6 +93,14 @@ pub struct Columns {
     pub tables: usize,
     pub width: usize,
     pub columns: [Column; Job::COLUMNS],
+}
+
+impl Columns {
+    pub fn columns(&self) -> &[Column]
+        ensures { result.now ≡ take self.now.width self.now.columns }
+    {
+        first(&self.columns, self.width)
+    }
 }
 
 // What is declared, and the two expressions.
