@@ -3,15 +3,10 @@ use mathlib.Core.Path.{◌≡◌, refl, sym, ap, ◌∙◌}
 use mathlib.Core.List.{List, [], ◌∷◌, ◌++◌}
 use Prim.Native.Nat.{ℕ, zero, suc, ◌+◌, ◌≤◌, ◌<◌}
 use native.Mathlib.Nat.{add-zero}
-use native.Mathlib.Numerals.{add-one}
 use native.Mathlib.Omega.{arith}
-use lib.ListN.{length, take, drop, set, length-append}
+use lib.ListN.{length, get_or, take, drop, set, length-append, drop_of_length-le}
 use lib.Seq.{sets, length-sets, sets-eq, get_or-drop}
-use Rattle.std.specs.declared.slice.Iter.{Iter}
-use Rattle.std.specs.declared.iter.Take.{Take}
-use Rattle.std.specs.Iterator.Adapters.{take_source, take_count}
-use Rattle.std.proofs.lemmas.List.{nil_from_length}
-use Rattle.std.specs.Slice.Iter.{iter_rest}
+use Rattle.std.proofs.lemmas.List.{drop_more}
 use Rattle.base.specs.Lists.{flat_map}
 use Rattle.base.specs.Bytes.{Bytes, Room, Puts}
 use Rattle.base.specs.declared.Output.{Output}
@@ -98,39 +93,17 @@ module _ {A : Type 0} {f : A → List ℕ} {l : List A} where
       let r : Room new (flat_map [] f) = rw is at s.room in
       s.done (rw is (nothing new (omega (arith, r.room))))
 
--- ---- the same in a loop over the first elements of a slice: those that the iterator s has left
-abbrev pub yet : {A : Type 0} → Take (Iter A) → List A
-yet s = take (take_count s) (iter_rest (take_source s))
+-- ---- the same in a loop over a slice s of these elements, in its turn i
+module _ {A : Type 0} {f : A → List ℕ} {l s : List A} {i : ℕ} {old new : Output} (is : s ≡ l) (so_far : Left f l (drop i l) old new) where
+  module _ (d : A) (more : i < length s) where
+    one_left : drop i l ≡ get_or s i d ∷ drop (i + 1) l
+    one_left = rw is (drop_more l i d (rw is at more))
 
-pub record Yet {A : Type 0} (f : A → List ℕ) (l : List A) (s : Take (Iter A)) (old new : Output) : Type 0 where
-  pub left : Left f l (yet s) old new
+    pub turn_room : Room new (f (get_or s i d))
+    turn_room = left_room one_left so_far
 
-pub yet_all : {A : Type 0} {f : A → List ℕ} {l : List A} {s : Take (Iter A)} {out : Output} → yet s ≡ l
-    → Room out (flat_map l f) → Yet f l s out out
-yet_all is r = record { left = rw is (left_all r) }
+    pub turn_next : {newer : Output} → Puts new newer (f (get_or s i d)) → Left f l (drop (i + 1) l) old newer
+    turn_next y = left_next one_left so_far y
 
-module _ {A : Type 0} {f : A → List ℕ} {l : List A} {old new : Output} {s : Take (Iter A)} (so_far : Yet f l s old new) where
-  -- one of them is there, and `more` of which n count come after it
-  module _ (n : ℕ) {x : A} {more : List A} (h : (iter_rest (take_source s) ≡ x ∷ more) × (n + 1 ≡ take_count s)) where
-    one_yet : yet s ≡ x ∷ take n more
-    one_yet = rw (← h.1, h.0, add-one) refl
-
-    pub yet_room : Room new (f x)
-    yet_room = left_room one_yet so_far.left
-
-    yet_more : {newer : Output} → Puts new newer (f x) → Left f l (take n more) old newer
-    yet_more y = left_next one_yet so_far.left y
-
-  pub yet_next : {t : Take (Iter A)} {x : A}
-      → (iter_rest (take_source s) ≡ x ∷ iter_rest (take_source t)) × (take_count t + 1 ≡ take_count s)
-      → {newer : Output} → Puts new newer (f x) → Yet f l t old newer
-  yet_next h y = record { left = yet_more _ h y }
-
-  pub yet_none : {P : Type 0} → (0 < take_count s → (length (iter_rest (take_source s)) ≡ 0) × P) → Puts old new (flat_map l f)
-  yet_none h = left_none (go (take_count s) refl) so_far.left
-    where
-      go : (n : ℕ) → take_count s ≡ n → take n (iter_rest (take_source s)) ≡ []
-      go zero e = refl
-      go (suc n) e =
-          let none : length (iter_rest (take_source s)) ≡ 0 = (h (omega arith)).0 in
-          rw (nil_from_length (iter_rest (take_source s)) none)
+  pub turn_none : length s ≤ i → Puts old new (flat_map l f)
+  turn_none done = left_none (drop_of_length-le l (rw is at done)) so_far

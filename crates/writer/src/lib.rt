@@ -44,7 +44,7 @@ fn put_table(out: &mut Output, k: &Columns, t: usize)
     ensures { Puts out.old out.new (table_bytes (columns_in k.now) t) }
 {
     out.put(u8::from(Command::NextTable));
-    for c in k.columns.iter().take(k.width) {
+    for c in k.columns() {
         put_column(out, c, t);
     }
 }
@@ -87,7 +87,7 @@ fn put_clause(out: &mut Output, c: &Clause)
     ensures { Puts out.old out.new (clause_bytes c.now) }
 {
     out.put(u8::from(Command::NextClause));
-    for k in c.comparisons.iter().take(c.size) {
+    for k in c.comparisons() {
         put_comparison(out, k);
     }
 }
@@ -96,7 +96,7 @@ fn put_condition(out: &mut Output, k: &Condition)
     requires { Room out.old (condition_bytes k.now) }
     ensures { Puts out.old out.new (condition_bytes k.now) }
 {
-    for c in k.clauses.iter().take(k.size) {
+    for c in k.clauses() {
         put_clause(out, c);
     }
 }
