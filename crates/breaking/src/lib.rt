@@ -68,7 +68,7 @@ impl Ways {
         ensures few { self.new.count ≤ 12 }
     {
         self.count = 0;
-        for k in &c.comparisons[..c.size] {
+        for k in c.comparisons() {
             let p = solver::negations(*k);
             self.put(p.first);
             if let Some(second) = p.second {

@@ -1,33 +1,27 @@
 -- Loops over the clauses of a condition, and over those of two: the first for which something is given. Assumes nothing.
 use mathlib.Core.Path.{◌≡◌, sym, ◌∙◌}
-use mathlib.Core.List.{[], ◌∷◌, ◌++◌, map}
-use mathlib.Core.Option.{Option, none, some}
-use Prim.Native.Nat.{ℕ, zero, suc, ◌+◌, ◌<◌, ◌≤◌, ◌*◌}
+use mathlib.Core.List.{List, [], ◌∷◌, ◌++◌, map}
+use mathlib.Core.Option.{Option, some}
+use Prim.Native.Nat.{ℕ, zero, suc, ◌+◌, ◌<◌, ◌*◌}
 use native.Mathlib.Nat.{add_assoc, add_comm, add-zero, zero-add, zero-mul, suc-mul}
 use native.Mathlib.Numerals.{add-one}
 use native.Mathlib.Omega.{arith}
-use lib.ListN.{length, drop, get_or, length-append, get_or-append, length-map}
+use lib.ListN.{length, take, drop, get_or, length-append, get_or-append, length-map}
 use Rattle.base.specs.Options.{first_of}
 use Rattle.base.proofs.Places.{behind_at, map_at}
-use Rattle.base.proofs.Turns.{first_none, first_more, first_found}
+use Rattle.base.proofs.Turns.{first_found}
 use Rattle.model.specs.Tables as model
+use Rattle.job.specs.declared.Clause.{Clause}
 use Rattle.job.specs.declared.Condition.{Condition}
 use Rattle.job.specs.Meaning.{clause_of, condition_of}
 use Rattle.zone.specs.Zone.{Zone}
 use Rattle.conditions.specs.Meeting.{both}
-use Rattle.conditions.proofs.Clauses.{items, item, items_done, item_more, item_of}
+use Rattle.conditions.proofs.Clauses.{item, item_more, item_of}
 
--- ---- the clauses of one condition: what is left from clause q on gives o
-module _ (k : Condition) (f : model.Clause → Option Zone) (q : ℕ) {o : Option Zone} (left : first_of (drop q (condition_of k)) f ≡ o) where
-  pub no_clause_lem : length (items k) ≤ q → o ≡ none
-  no_clause_lem h = first_none f [] (condition_of k) q left (items_done k q h)
-
-  module _ (h : q < length (items k)) where
-    pub next_clause : f (clause_of (item k q)) ≡ none → first_of (drop (q + 1) (condition_of k)) f ≡ o
-    next_clause e = first_more f [] (condition_of k) q left (item_more k q h) (rw (item_of k q h) e)
-
-    pub this_clause : {y : Zone} → f (clause_of (item k q)) ≡ some y → o ≡ some y
-    this_clause e = first_found f [] (condition_of k) q left (item_more k q h) (rw (item_of k q h) e)
+-- ---- the clauses of one condition, which are the slice s: what is left of them from clause q on gives o
+pub this_clause : (k : Condition) {s : List Clause} → s ≡ take k.size k.clauses → (f : model.Clause → Option Zone) (q : ℕ) {o : Option Zone}
+    → first_of (drop q (condition_of k)) f ≡ o → q < length s → {y : Zone} → f (clause_of (item s q)) ≡ some y → o ≡ some y
+this_clause k is f q left h e = first_found f [] (condition_of k) q left (item_more k is h) (rw (item_of k is h) e)
 
 -- ---- pairs of clauses
 

@@ -8,10 +8,9 @@ use Rattle.job.specs.Meaning.{clause_of, condition_of}
 use Rattle.zone.specs.Zone.{Zone, columns_of}
 use Rattle.solver.specs.Solver.{comparison_fits}
 
--- a clause of comparisons of n columns, no more of them than its array holds
-pub record ClauseFits (n : ℕ) (c : Clause) : Type 0 where
-  pub small : c.size ≤ 6
-  pub fit : T (all_of (comparison_fits n) (clause_of c))
+-- a clause of comparisons of n columns
+abbrev pub ClauseFits : ℕ → Clause → Type 0
+ClauseFits n c = T (all_of (comparison_fits n) (clause_of c))
 
 -- every comparison of a condition fits n columns
 abbrev pub condition_fits : ℕ → model.Condition → Bool

@@ -21,7 +21,7 @@ pub fn impose_clause<const N: usize>(z: &mut Zone<N>, c: &Clause) -> bool
     ensures answer { result ≡ is_some (imposed_all z.old (clause_of c.now)) }
     ensures zone { z.new ≡ reached z.old (clause_of c.now) }
 {
-    solver::impose_all(z, &c.comparisons[..c.size])
+    solver::impose_all(z, c.comparisons())
 }
 
 // Lays the rows of a zone that meet both clauses into another; where there are none it says so, and stops at the comparison that leaves
@@ -50,7 +50,7 @@ pub fn met<const N: usize>(z: &Zone<N>, k: &Condition, out: &mut Zone<N>) -> boo
     requires { ConditionFits (columns_of z.now) k.now }
     ensures { Ends (met z.now (condition_of k.now)) result out.new }
 {
-    for c in &k.clauses[..k.size] {
+    for c in k.clauses() {
         out.copy_from(z);
         if impose_clause(out, c) {
             return true;

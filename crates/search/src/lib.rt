@@ -162,8 +162,8 @@ pub fn outside<const N: usize>(
     ensures { Ends (outside z.now (condition_of a.now) (condition_of b.now) k.now.clauses (choices_in k.now)) result out.new }
 {
     let mut found = false;
-    'first: for c in &a.clauses[..a.size] {
-        'second: for e in &b.clauses[..b.size] {
+    'first: for c in a.clauses() {
+        'second: for e in b.clauses() {
             if conditions::lay_pair(z, c, e, &mut on_way.pair) {
                 if broken(
                     &on_way.pair,

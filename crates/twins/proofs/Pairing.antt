@@ -7,7 +7,7 @@ use mathlib.Core.Logic.{◌⊎◌, inl, inr, ⊎_elim}
 use Prim.Native.Nat.{ℕ, ◌+◌, ◌<◌, ◌≤◌}
 use native.Mathlib.Nat.{zero-add}
 use native.Mathlib.Omega.{arith}
-use lib.ListN.{length, get_or}
+use lib.ListN.{length, get_or, take}
 use lib.Dec.{T, eqb, eqb→eq}
 use mir.Facts.{or_yes}
 use Rattle.base.specs.Lists.{at}
@@ -19,12 +19,13 @@ use Rattle.std.proofs.lemmas.List.FromFn.{length-range_with_len, get_or-range_wi
 use Rattle.std.proofs.lemmas.List.Sums.{AllPass-from_list_all}
 use Rattle.base.proofs.Tests.{T-is, is_T}
 use Rattle.model.specs.Tables as model
+use Rattle.job.specs.declared.Clause.{Clause}
 use Rattle.job.specs.declared.Condition.{Condition}
 use Rattle.job.specs.Meaning.{condition_of}
 use Rattle.zone.specs.Zone.{Zone, Closed}
 use Rattle.solver.specs.Solver.{imposed_all}
 use Rattle.conditions.specs.Meeting.{pairs_of}
-use Rattle.conditions.proofs.Clauses.{items, item}
+use Rattle.conditions.proofs.Clauses.{item}
 use Rattle.conditions.proofs.Meeting.{Paired}
 use Rattle.conditions.proofs.Pairs.{place}
 use Rattle.conditions.proofs.Both.{left_none}
@@ -53,10 +54,11 @@ module _ (z : Zone) (k l : Condition) (w : ℕ) (twin : List ℕ) where
   left q r c = is_some (first_of (turns_left k l q r) (λ k. and_then (imposed_all z k) (sought c)))
 
   -- no pair is left
-  pub marks_end : {q : ℕ} (marks : List Bool) → length (items k) ≤ q → marked_by (turns_left k l q 0) z w (λ c. if_differ c (at twin c)) marks ≡ marks
-  marks_end {q} marks h =
+  pub marks_end : {s : List Clause} → s ≡ take k.size k.clauses → {q : ℕ} (marks : List Bool) → length s ≤ q
+      → marked_by (turns_left k l q 0) z w (λ c. if_differ c (at twin c)) marks ≡ marks
+  marks_end is {q} marks h =
       marked_cong (left q 0) (λ c. false) marks w
-      (λ c g. ap is_some (turns_end k l (λ k. and_then (imposed_all z k) (sought c)) q refl h))
+      (λ c g. ap is_some (turns_end k l is (λ k. and_then (imposed_all z k) (sought c)) q refl h))
       ∙ marked_nothing marks w
 
   -- every column is marked, or its own twin, and then no pair marks one more
@@ -80,28 +82,28 @@ module _ (z : Zone) (k l : Condition) (w : ℕ) (twin : List ℕ) where
           let own : at twin c ≡ c = eqb→eq (at twin c) c e in
           let no_more : left q r c ≡ false = ap is_some (left_none closed (nodes_of closed) (sought c)
           (λ y cl size. rw own (own_same cl size (omega (arith, u.paired.first_in))))
-          (condition_of k) (condition_of l) u.searches.first.fit u.searches.second.fit (place (length (items l)) q r)) in
+          (condition_of k) (condition_of l) u.searches.first.fit u.searches.second.fit (place (length (condition_of l)) q r)) in
           rw no_more (or-false (get_or marks c false)))
           (or_yes (get_or marks c false) (eqb (at twin c) c) (passed c h))
 
-  -- one pair more; s and e are what laying it answers and leaves
-  module _ {q r : ℕ} (h : q < length (items k)) (g : r < length (items l)) {s : Bool} {e : Zone}
-      (laid : Paired z (item k q) (item l r) s e) (marks : List Bool) where
-    without : s ≡ false → (c : ℕ) → left q (r + 1) c ≡ left q r c
-    without no_row c = ap is_some (turn_without k l h g z laid (sought c) refl no_row)
+  -- one pair more of the clauses s and t; b and e are what laying it answers and leaves
+  module _ {s t : List Clause} (is : s ≡ take k.size k.clauses) (js : t ≡ take l.size l.clauses) {q r : ℕ} (h : q < length s) (g : r < length t)
+      {b : Bool} {e : Zone} (laid : Paired z (item s q) (item t r) b e) (marks : List Bool) where
+    without : b ≡ false → (c : ℕ) → left q (r + 1) c ≡ left q r c
+    without no_row c = ap is_some (turn_without k l is js h g z laid (sought c) refl no_row)
 
-    with_pair : s ≡ true → (c : ℕ) → (is_some (sought c e) || left q (r + 1) c) ≡ left q r c
+    with_pair : b ≡ true → (c : ℕ) → (is_some (sought c e) || left q (r + 1) c) ≡ left q r c
     with_pair some_row c = go (sought c e) refl
       where
         go : (o : Option Zone) → sought c e ≡ o → (is_some o || left q (r + 1) c) ≡ left q r c
-        go none i = ap is_some (turn_passed k l h g z laid (sought c) refl some_row i)
-        go (some v) i = sym (ap is_some (turn_with k l h g z laid (sought c) refl some_row i))
+        go none i = ap is_some (turn_passed k l is js h g z laid (sought c) refl some_row i)
+        go (some v) i = sym (ap is_some (turn_with k l is js h g z laid (sought c) refl some_row i))
 
     pub marks_turn : w ≤ length marks → {new : List Bool}
-        → ((s ≡ true) × (new ≡ marked w (λ c. is_some (if_differ c (at twin c) e)) marks)) ⊎ ((s ≡ false) × (new ≡ marks))
+        → ((b ≡ true) × (new ≡ marked w (λ c. is_some (if_differ c (at twin c) e)) marks)) ⊎ ((b ≡ false) × (new ≡ marks))
         → marked_by (turns_left k l q (r + 1)) z w (λ c. if_differ c (at twin c)) new
         ≡ marked_by (turns_left k l q r) z w (λ c. if_differ c (at twin c)) marks
-    marks_turn enough (inl (some_row, is)) = rw is (
+    marks_turn enough (inl (some_row, new)) = rw new (
         marked_marked (left q (r + 1)) (λ c. is_some (sought c e)) marks w enough
         ∙ marked_cong (λ c. is_some (sought c e) || left q (r + 1) c) (left q r) marks w (λ c l. with_pair some_row c))
-    marks_turn enough (inr (no_row, is)) = rw is (marked_cong (left q (r + 1)) (left q r) marks w (λ c l. without no_row c))
+    marks_turn enough (inr (no_row, same)) = rw same (marked_cong (left q (r + 1)) (left q r) marks w (λ c l. without no_row c))

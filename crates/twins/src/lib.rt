@@ -183,8 +183,8 @@ impl TwinRows {
         if self.all_shared(cs) {
             return false;
         }
-        for first in &k.clauses[..k.size] {
-            for second in &l.clauses[..l.size] {
+        for first in k.clauses() {
+            for second in l.clauses() {
                 if conditions::lay_pair(z, first, second, out) && self.separate(out, cs) {
                     return true;
                 }
@@ -227,8 +227,8 @@ impl TwinRows {
     {
         // a column doesn't differ from itself, since a zone is closed, as `nodes` tells
         let _ = z.nodes();
-        for first in &k.clauses[..k.size] {
-            for second in &l.clauses[..l.size] {
+        for first in k.clauses() {
+            for second in l.clauses() {
                 if self.all_marked(&*marks) {
                     return;
                 }

@@ -2,9 +2,9 @@ use mathlib.Core.Path.{◌≡◌, ap, sym, ◌∙◌}
 use native.Mathlib.Omega.{arith}
 use borrow.Author.Rules.{rules}
 use Prim.Native.Nat.{◌<◌}
-use lib.ListN.{length, length-map}
-use Rattle.job.specs.Meaning.{clause_of, condition_of}
-use Rattle.conditions.proofs.Clauses.{condition_length, items, item_is, item_of}
+use lib.ListN.{length}
+use Rattle.job.specs.Meaning.{condition_of}
+use Rattle.conditions.proofs.Clauses.{condition_length, clause_at}
 use Rattle.breaking.specs.Breaking.{ways_of}
 use Rattle.breaking.proofs.Filling.{lay_clause, lay_spare, lay_end}
 use Rattle.breaking.proofs.put_choices.Goals as goal
@@ -21,10 +21,8 @@ loop-q-preserved c =
     let more : c.loop-q.q < 4 = omega (arith, c.loop-q-test.true, c.loop-q.invariant.four) in
     elim c.if-q-k.branch [
       | then-q-k w ↦
-          let there : c.loop-q.q < length (items c.args.k.now) = rw (sym (length-map (items c.args.k.now) clause_of)) (omega arith) in
-          rw w.ways-items-is (lay_clause c.loop-q.invariant _ more (omega arith)
-          (w.set.ensures.ways ∙ ap ways_of (ap clause_of (sym (item_is c.args.k.now c.loop-q.q there)) ∙ sym (item_of c.args.k.now c.loop-q.q there)))
-          w.set.ensures.few)
+          let is = clause_at c.args.k.now (omega arith) w.if-q-k.true in
+          rw w.ways-items-is (lay_clause c.loop-q.invariant _ more (omega arith) (w.set.ensures.ways ∙ ap ways_of (sym is)) w.set.ensures.few)
       | else-q-k w ↦ rw w.ways-items-is (lay_spare c.loop-q.invariant _ more (omega arith) w.put.ensures.ways (omega (arith, w.put.ensures.few)))
     ]
 

@@ -12,4 +12,4 @@ pub returns-then-impose_clause : goal.returns-then-impose_clause
 returns-then-impose_clause g c =
     let told = c.impose_clause.ensures in
     let found = listed_found c.args.z.now _ (listed_in c.args.z.now _ c.copy_from.ensures told.answer told.zone) c.if-impose_clause.true in
-    ends_some _ (this_clause c.args.k.now _ c.loop-c.c-index c.loop-c.invariant c.loop-c-test.true found)
+    ends_some _ (this_clause c.args.k.now c.clauses-c-items.ensures _ c.loop-c.c-index c.loop-c.invariant c.loop-c-test.true found)

@@ -1,7 +1,6 @@
 use borrow.Author.Rules.{rules}
 use native.Mathlib.Omega.{arith}
 use mathlib.Core.Path.{refl, sym, ◌∙◌}
-use Rattle.conditions.specs.Meeting.{Ends}
 use Rattle.conditions.proofs.Meeting.{ends_none}
 use Rattle.search.proofs.Levels.{ready_by, level_start, level_end, level_asks, turn_down, turn_barren, turn_shut, turn_ends, order_four, search_is}
 use Rattle.search.proofs.broken.Goals as goal

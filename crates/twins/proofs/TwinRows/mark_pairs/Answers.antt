@@ -20,7 +20,11 @@ returns-then-all_marked g c =
     (rw c.loop-second.invariant.0 at all)) ∙ c.loop-second.invariant.1
 
 pub lay_pair-requires : goal.lay_pair-requires
-lay_pair-requires g c = (search rules, turn_asks _ _ c.loop-first-test.true c.loop-second-test.true c.requires.searches)
+lay_pair-requires g c = (
+  search rules,
+  turn_asks _ _ c.clauses-first-items.ensures c.clauses-second-items.ensures
+      c.loop-first-test.true c.loop-second-test.true c.requires.searches,
+)
 
 pub mark-requires : goal.mark-requires
 mark-requires g c = (search rules, rw (c.lay_pair.ensures.zone, reached_length _ _, c.loop-second.invariant.0) c.requires.paired)
@@ -31,7 +35,8 @@ loop-second-preserved g c = (
     | then-lay_pair w ↦ ap length w.marks-is ∙ w.mark.auto.marks ∙ c.loop-second.invariant.0
     | else-lay_pair w ↦ ap length w.marks-is ∙ c.loop-second.invariant.0
   ],
-  marks_turn _ _ _ _ _ c.loop-first-test.true c.loop-second-test.true (c.lay_pair.ensures.answer, c.lay_pair.ensures.zone)
+  marks_turn _ _ _ _ _ c.clauses-first-items.ensures c.clauses-second-items.ensures c.loop-first-test.true c.loop-second-test.true
+      (c.lay_pair.ensures.answer, c.lay_pair.ensures.zone)
       c.loop-second.marks (omega (arith, c.loop-second.invariant.0))
       (elim c.if-lay_pair.branch [
         | then-lay_pair w ↦ inl (
@@ -44,9 +49,9 @@ loop-second-preserved g c = (
 
 pub loop-first-preserved : goal.loop-first-preserved
 loop-first-preserved g c =
-    let row = turns_row c.args.k.now c.args.l.now c.loop-first.first-index c.loop-second.second-index
+    let row = turns_row c.args.k.now c.args.l.now c.clauses-second-items.ensures c.loop-first.first-index c.loop-second.second-index
     (omega (arith, c.loop-second-test.false, c.loop-second.auto.second-index-end)) in
     (c.loop-second.invariant.0, (rw row at c.loop-second.invariant.1))
 
 pub returns : goal.returns
-returns g c = sym (marks_end _ _ _ _ _ c.loop-first.marks (omega (arith, c.loop-first-test.false))) ∙ c.loop-first.invariant.1
+returns g c = sym (marks_end _ _ _ _ _ c.clauses-first-items.ensures c.loop-first.marks (omega (arith, c.loop-first-test.false))) ∙ c.loop-first.invariant.1
