@@ -18,6 +18,7 @@ use Rattle.model.specs.Tables.{Row, value}
 use Rattle.model.specs.declared.Bounds.{Bounds}
 use Rattle.std.specs.Array.{AllOfLen}
 use Rattle.job.specs.declared.Column.{Column}
+use Rattle.job.specs.declared.Columns.{Columns}
 use Rattle.job.proofs.Defaults.{filled}
 use Rattle.job.specs.Meaning.{bounds_of}
 use Rattle.twins.specs.declared.TwinRows.{TwinRows}
@@ -54,6 +55,10 @@ no_twins t h =
     let bounds = filled no_bounds is_no_bounds t.bounds 32 h.1.1 in
     let all : ◌≡◌ {A = TwinRows} (record { columns = t.columns; twin = t.twin; bounds = t.bounds })
     (record { columns = 0; twin = replicate 16 0; bounds = replicate 32 no_bounds }) = cc in all
+
+-- ---- columns that are declared
+pub few_of : (k : Columns) {xs : List Column} → xs ≡ take k.width k.columns → k.width ≤ 16 → length xs ≤ 16
+few_of k is few = rw is (omega (arith, length-take k.width k.columns))
 
 -- ---- the first row
 module _ (xs : List Column) (few : length xs ≤ 16) (c : ℕ) {t : TwinRows} (is : t ≡ twins_of (map bounds_of (take c xs)) []) where

@@ -85,7 +85,7 @@ impl TwinRows {
         ensures { result ≡ twins_of (map bounds_of (take k.now.width k.now.columns)) [] }
     {
         let mut t = Self::default();
-        for column in &k.columns[..k.width] {
+        for column in k.columns() {
             t.add(column.bounds);
         }
         t
@@ -97,7 +97,7 @@ impl TwinRows {
         ensures { result ≡ twins_record (map bounds_of (take k.now.width k.now.columns)) stored.now }
     {
         let mut t = Self::first(k);
-        for (c, column) in k.columns[..k.width].iter().enumerate() {
+        for (c, column) in k.columns().iter().enumerate() {
             if stored.contains(&(c as u8)) {
                 t.twin[c] = c as u8;
             } else {
