@@ -80,8 +80,8 @@ fn database_of(k: &Columns, present: [bool; Job::TABLES], row: [i32; Job::COLUMN
     ensures { result ≡ database_record k.now present row }
 {
     let mut values = [0i32; Job::COLUMNS];
-    for (c, column) in k.columns[..k.width].iter().enumerate() {
-        values[c] = if present[usize::from(column.table)] {
+    for (c, value) in values[..k.width].iter_mut().enumerate() {
+        *value = if present[usize::from(k.columns[c].table)] {
             row[c]
         } else {
             0

@@ -1,18 +1,13 @@
 use native.Mathlib.Omega.{arith}
-use mathlib.Core.Path.{◌≡◌, sym, ap, ◌∙◌}
-use mathlib.Core.Bool.{Bool, cond, false}
+use mathlib.Core.Path.{sym, ap, ◌∙◌}
 use mathlib.Core.List.{List}
-use Prim.Native.Nat.{ℕ, ◌<◌}
-use lib.ListN.{get_or, length-take}
-use lib.Seq.{get_or-take}
+use Prim.Native.Nat.{◌<◌}
 use lib.IntN.{ℤ, pos}
-use Rattle.base.proofs.Arrays.{pass_start, front_turn, front_padded}
+use Rattle.base.proofs.Arrays.{pass_start, front_turn, front_size, front_slice}
 use Rattle.words.proofs.Stored.{stored}
 use Rattle.model.specs.Tables.{value}
-use Rattle.job.specs.declared.Column.{Column}
-use Rattle.job.specs.Record.{no_column}
 use Rattle.databases.specs.declared.Database.{Database}
-use Rattle.databases.specs.Databases.{table_at, database_record}
+use Rattle.databases.specs.Databases.{database_record}
 use Rattle.databases.proofs.database_of.Goals as goal
 use Rattle.databases.proofs.database_of.Goals.{then-present-from, else-present-from}
 
@@ -21,26 +16,15 @@ loop-c-init c = pass_start _ _ _ _
 
 pub loop-c-preserved : goal.loop-c-preserved
 loop-c-preserved c =
-    let a = c.args in let k = a.k.now in let i = c.loop-c.c in
-    let h : i < k.width = omega (arith, c.loop-c-test.true, length-take k.width k.columns) in
-    let table : c.from.result ≡ table_at k.columns i =
-    c.from.ensures ∙ ap (λ (x : Column). x.table) (get_or-take k.width k.columns i no_column h) in
-    let there : get_or a.present c.from.result false ≡ get_or a.present (table_at k.columns i) false =
-    ap (λ (t : ℕ). get_or a.present t false) table in
-    front_turn c.loop-c.invariant h (elim c.if-present-from.branch [
-      | then-present-from w ↦ w.values-is ∙ stored (value a.row i) (omega arith) ∙ ap (λ (b : Bool). cond b (value a.row i) (pos 0)) (sym (sym there ∙ w.if-present-from.true))
-      | else-present-from w ↦ w.values-is ∙ ap (λ (b : Bool). cond b (value a.row i) (pos 0)) (sym (sym there ∙ w.if-present-from.false))
+    let more : c.loop-c.c < c.args.k.now.width = omega (arith, c.loop-c-test.true, front_size {A = ℤ} (pos 0) c.requires.width) in
+    front_turn c.loop-c.invariant more (elim c.if-present-from.branch [
+      | then-present-from w ↦ w.value-is ∙ stored (value c.args.row c.loop-c.c) (omega arith) ∙ sym (rw (← c.from.ensures, w.if-present-from.true))
+      | else-present-from w ↦ w.value-is ∙ sym (rw (← c.from.ensures, w.if-present-from.false))
     ])
 
 pub returns : goal.returns
 unfolding database_record
 returns c =
-    let k = c.args.k.now in
     let with : List ℤ → Database = λ vs. record { present = c.args.present; values = vs } in
-    ap with (front_padded (pos 0) c.loop-c.invariant (omega (
-      arith,
-      c.loop-c-test.false,
-      c.loop-c.invariant.within,
-      c.requires.width,
-      length-take k.width k.columns,
-    )) c.requires.width)
+    let room = c.requires.width in
+    ap with (front_slice (pos 0) room c.loop-c.invariant (omega (arith, c.loop-c-test.false, front_size {A = ℤ} (pos 0) room)))
