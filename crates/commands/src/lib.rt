@@ -271,14 +271,15 @@ impl<'a> Progress<'a> {
         operands(c) < self.bytes.len() - self.at
     }
 
-    // Whether the last clause has room. Where there is none, the first place has an empty one.
-    #[tactic(auto, using(crate::proofs::Looks::last_size_held))]
+    // Whether the last clause has room, or there is none.
+    #[tactic(auto, using(crate::proofs::Looks::room_none, crate::proofs::Looks::room_some))]
     fn has_room_to_compare(&self) -> bool
         ensures { result ≡ has_room self.now.state NumberCompared }
     {
         let condition = &self.current().condition;
-        let last = condition.size.saturating_sub(1);
-        condition.clauses[last].size < Job::COMPARISONS
+        condition.clauses[..condition.size]
+            .last()
+            .is_none_or(|k| k.size < Job::COMPARISONS)
     }
 
     // Whether column c is declared and its table used.
