@@ -12,7 +12,7 @@ ghost use Rattle.solver.specs.Lists.{reached};
 ghost use Rattle.conditions.specs.Meeting.{always_record, met, Ends};
 ghost use Rattle.conditions.specs.Uses.{ClauseFits, ConditionFits};
 
-use job::{Clause, Condition, Job};
+use job::{Clause, Condition};
 use zone::Zone;
 
 // Keeps the rows that meet the clause; where there are none it says so, and stops at the comparison that leaves none.
@@ -41,7 +41,7 @@ pub fn always() -> Condition
 {
     Condition {
         size: 1,
-        clauses: [Clause::default(); Job::CLAUSES],
+        ..Condition::default()
     }
 }
 

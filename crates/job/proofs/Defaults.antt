@@ -49,7 +49,7 @@ clause_is x h =
 abbrev IsCondition : Condition → Type 0
 IsCondition x = (x.size ≡ 0) × AllOfLen IsClause x.clauses 4
 
-condition_is : (x : Condition) → IsCondition x → x ≡ no_condition
+pub condition_is : (x : Condition) → IsCondition x → x ≡ no_condition
 condition_is x h =
     let a = h.0 in
     let b = filled no_clause clause_is x.clauses 4 h.1 in
