@@ -276,10 +276,8 @@ impl<'a> Progress<'a> {
     fn has_room_to_compare(&self) -> bool
         ensures { result ≡ has_room self.now.state NumberCompared }
     {
-        let condition = &self.current().condition;
-        condition.clauses[..condition.size]
-            .last()
-            .is_none_or(|k| k.size < Job::COMPARISONS)
+        let clauses = self.current().condition.clauses();
+        clauses.last().is_none_or(|k| k.size < Job::COMPARISONS)
     }
 
     // Whether column c is declared and its table used.
