@@ -418,7 +418,7 @@ impl<'a> Progress<'a> {
         Ok(Addition::Part(Part::Compared(k)))
     }
 
-    // What a command adds that has passed the checks 2 to 6.
+    // What a command adds that has passed the checks 2 to 6: so its operands are there, each at its place, here and in what is called.
     pub fn enter(&self, c: Command) -> Result<Addition, Fault>
         requires { (follows self.now.state c ≡ true) × (self.now.at + 1 + operands c ≤ length self.now.bytes) }
         ensures { result ≡ judged_at self.now c }
@@ -473,7 +473,7 @@ fn add(job: &mut Job, in_query: bool, x: Addition)
     }
 }
 
-// Puts a part into an expression, behind the others of its kind.
+// Puts a part into an expression, behind the others of its kind. The counts are a record's, which any caller lends: no list type's.
 fn put(e: &mut Expression, p: Part)
     requires { PartFits e.old p }
     ensures { e.new ≡ part_more e.old p }

@@ -62,7 +62,7 @@ fn both_use(e: &Expression, f: &Expression, t: u8) -> bool
     uses(e, t) && uses(f, t)
 }
 
-// The tables that both expressions use.
+// The tables that both expressions use. A table or a column is below 4 or 16 wherever it becomes a byte here: no conversion could fail.
 fn present(e: &Expression, f: &Expression) -> [bool; Job::TABLES]
     ensures { result ≡ present_in (expression_of e.now) (expression_of f.now) }
 {
@@ -133,7 +133,7 @@ fn least_of<const N: usize>(z: &Zone<N>) -> [i32; twins::COLUMNS]
     least
 }
 
-// Of the least row: the row, and what is left of it without other tables, or none.
+// Of the least row: the row, and what is left of it without other tables, or none. The two kinds share the row, and so this function.
 fn one_row_pair<const N: usize>(
     k: &Columns,
     extract: &Expression,

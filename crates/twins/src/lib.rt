@@ -25,7 +25,8 @@ use zone::Zone;
 pub const COLUMNS: usize = 32;
 
 // Two rows that agree in the stored columns, as one row: how many columns it has, where the second row's value of each column stands, and
-// the bounds of its columns. The count stands beside arrays, since memory is fixed.
+// the bounds of its columns. The count stands beside arrays, since memory is fixed. Which columns there are is another value's, so that the
+// twins stand among them is no invariant here; a column becomes a byte as it is, since none is above 31.
 #[derive(Clone, Copy, Default)]
 pub struct TwinRows {
     pub columns: usize,

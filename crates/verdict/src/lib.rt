@@ -25,7 +25,7 @@ const SMALL: usize = 13 * zone::WIDTH;
 // ---- The kind
 
 // Kind 1 or 2, and the rows of a zone that show it, or 0; `differ` says whether the used tables differ. An Option of the kind would say
-// twice that none is shown, since it is 0 then.
+// twice that none is shown, since it is 0 then. The choices are lent beside the scratch and filled in place, once for each search.
 fn find_one<const N: usize>(
     z: &Zone<N>,
     differ: bool,
