@@ -73,8 +73,8 @@ fn present(e: &Expression, f: &Expression) -> [bool; Job::TABLES]
     present
 }
 
-// A row's values in the tables that are present. Here and below `TablesFew` is no type's: a lent record may name any table, and it is judged
-// before. And columns, extract and query stay three, since contracts name one or two of them as often as all.
+// A row's values in the tables that are present. Here and below `TablesFew` is no type's: a lent record may name any table, and it is
+// judged before. And columns, extract and query stay three, since contracts name one or two of them as often as all.
 fn database_of(k: &Columns, present: [bool; Job::TABLES], row: [i32; Job::COLUMNS]) -> Database
     requires { TablesFew k.now }
     ensures { result ≡ database_record k.now present row }

@@ -15,8 +15,8 @@ ghost use Rattle.listform.specs.Uses.{Room};
 use listform::Found;
 use std::io::{Error, ErrorKind, Read, Result, Write};
 
-// Answers bytes that are no list. No further list may follow, as the error says: these were none, or a call failed. It is called where a read
-// failed, and by no closure, which would lend the output.
+// Answers bytes that are no list. No further list may follow, as the error says: these were none, or a call failed. It is called where a
+// read failed, and by no closure, which would lend the output.
 fn refuse(output: &mut impl Write) -> Error {
     match output.write_all(&[u8::from(Found::NoList)]) {
         Ok(()) => ErrorKind::InvalidData.into(),

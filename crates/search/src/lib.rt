@@ -38,8 +38,8 @@ fn count_allowed<const N: usize>(z: &Zone<N>, ways: &[Constraint]) -> usize
         .count()
 }
 
-// What each clause weighs: as much as it has ways that some row takes. By places, as wherever elements are written in step with another list: in
-// a zip a proof doesn't reach what the written ones become.
+// What each clause weighs: as much as it has ways that some row takes. By places, as wherever elements are written in step with another
+// list: in a zip a proof doesn't reach what the written ones become.
 fn weigh<const N: usize>(z: &Zone<N>, k: &Choices) -> [usize; Job::CLAUSES]
     requires { Weighs (length z.now) k.now }
     ensures { result ≡ weights z.now k.now.clauses (choices_in k.now) }
@@ -148,8 +148,8 @@ fn broken<const N: usize>(
 }
 
 // Some rows of a zone that meet both conditions and break every clause of another, or none. Document 01 has labelled loops here, as in
-// `broken`, and no function that takes what is done with a pair of clauses. The zone and the two conditions are no struct, here and in twins:
-// each search has others of them, and its contract names each.
+// `broken`, and no function that takes what is done with a pair of clauses. The zone and the two conditions are no struct, here and in
+// twins: each search has others of them, and its contract names each.
 pub fn outside<const N: usize>(
     z: &Zone<N>,
     a: &Condition,

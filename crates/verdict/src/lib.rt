@@ -51,7 +51,8 @@ fn find_one<const N: usize>(
 }
 
 // Kind 3 or 4, and two rows as one of a zone that show it, or 0. Kind 2 has been ruled out: a row that the query wants is one that the
-// extract keeps, so it is asked of the second row alone. Other rows are sought than in `find_one`, and only the search is shared; a kind is given as there.
+// extract keeps, so it is asked of the second row alone. Other rows are sought than in `find_one`, and only the search is shared; a kind is
+// given as there.
 fn find_two<const N: usize>(
     z: &Zone<N>,
     rows: &TwinRows,
