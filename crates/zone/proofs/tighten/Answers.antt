@@ -17,14 +17,14 @@ overflow_add-d c = omega (arith, ends_fit c.requires c.loop-i.invariant (omega a
 pub tighten_row-requires : goal.tighten_row-requires
 tighten_row-requires c =
     let t = c.loop-i in
-    row_asks c.requires t.invariant (omega arith) c.if-p-d.true
+    row_asks c.requires t.invariant (omega arith) c.put_nearer-count.ensures.nodes c.if-p-d.true
 
 pub loop-i-preserved : goal.loop-i-preserved
 loop-i-preserved c =
     let u = c.requires in
     let t = c.loop-i in
     elim c.if-p-d.branch [
-      | then-p-d w ↦ row_turn u t.invariant (omega arith) (w.d-is ∙ w.tighten_row.ensures)
+      | then-p-d w ↦ row_turn u t.invariant (omega arith) c.put_nearer-count.ensures.nodes (w.d-is ∙ w.tighten_row.ensures)
       | else-p-d w ↦ row_left u
           t.invariant (omega arith) w.if-p-d.false w.d-is
     ]
