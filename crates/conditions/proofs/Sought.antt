@@ -18,7 +18,7 @@ use Rattle.model.specs.Rows.{some_row}
 use Rattle.model.proofs.Rows.{some_has, has_some}
 use Rattle.zone.specs.Zone.{Zone, least_of}
 use Rattle.solver.specs.Solver.{bounds_fit, comparison_fits, row_of, imposed_all}
-use Rattle.conditions.specs.Meeting.{met}
+use Rattle.conditions.specs.Meeting.{by_clause, met, pairs_of}
 use Rattle.conditions.specs.Uses.{condition_fits}
 use Rattle.conditions.proofs.Stands.{Stands, Left, least_stands, clause_left}
 
@@ -106,6 +106,15 @@ module _ (bs : List Bounds) (fit : T (all_of bounds_fit bs)) where
       (first_sought bs p (λ c r. clause_holds r c && t r) (λ c. and_then (imposed_all z c) f) k (λ c m.
       then_sought bs p (λ r. clause_holds r c) t (imposed_all z c) f
       (clause_left bs fit p z s c (all_has (all_of (comparison_fits (length bs))) m fits)) (next (λ r. p r && clause_holds r c))))
+
+  -- to meet two conditions, and then what f seeks
+  pub pairs_sought : (p : Row → Bool) (z : Zone) → Stands bs p z
+      → (k l : Condition) → T (condition_fits (length bs) k) → T (condition_fits (length bs) l)
+      → (t : Row → Bool) (f : Zone → Option Zone) → ((q : Row → Bool) (y : Zone) → Stands bs q y → Sought bs q t (f y))
+      → Sought bs p (λ r. condition_holds r k && (condition_holds r l && t r)) (pairs_of z k l f)
+  unfolding pairs_of
+  pairs_sought p z s k l fk fl t f next =
+      clauses_sought p z s k fk (λ r. condition_holds r l && t r) (λ y. by_clause y l f) (λ q y u. clauses_sought q y u l fl t f next)
 
   -- to meet a condition
   pub met_sought : (p : Row → Bool) (z : Zone) → Stands bs p z → (k : Condition) → T (condition_fits (length bs) k)

@@ -1,7 +1,6 @@
 -- The rows of a zone that meet a condition, or two, clause by clause.
-use Rattle.std.specs.Prelude.{◌≡◌, Bool, [], ◌∷◌, ◌++◌, map, replicate}
+use Rattle.std.specs.Prelude.{◌≡◌, Bool, [], ◌∷◌, replicate}
 use Rattle.std.proofs.Math.Option.{Option, some}
-use Rattle.base.specs.Lists.{flat_map}
 use Rattle.base.specs.Options.{is_some, and_then, first_of}
 use Rattle.model.specs.Tables as model
 use Rattle.job.specs.declared.Condition.{Condition}
@@ -17,13 +16,9 @@ by_clause z k f = first_of k (λ c. and_then (imposed_all z c) f)
 unfoldable pub met : Zone → model.Condition → Option Zone
 met z k = first_of k (imposed_all z)
 
--- a clause for each pair of clauses, one of each condition, the first's changing slowest: a row meets it where it meets both
-unfoldable pub both : model.Condition → model.Condition → model.Condition
-both k l = flat_map k (λ c. map (λ e. c ++ e) l)
-
--- what f gives for the rows of the zone that meet both conditions, by the first pair of clauses for which it gives something
+-- what f gives for the rows that meet both conditions, by the first pair of clauses for which it gives something; the first's changes slowest
 unfoldable pub pairs_of : Zone → model.Condition → model.Condition → (Zone → Option Zone) → Option Zone
-pairs_of z k l f = by_clause z (both k l) f
+pairs_of z k l f = by_clause z k (λ y. by_clause y l f)
 
 -- the condition that every row meets, by a clause that asks nothing; and its record
 abbrev pub always : model.Condition

@@ -1,9 +1,9 @@
-// Conditions and the rows of a zone: those that meet a clause, or a clause of each of two conditions. They are laid into a lent zone, since
-// one is too large to be handed back, and the answer is whether there are any. An Option of the lent zone can't be handed on by a caller
-// that lends it again where there is none (rustc's E0499), and would lose what the zone is then.
+// Conditions and the rows of a zone: those that meet a clause, or a condition. They are laid into a lent zone, since one is too large to be
+// handed back, and the answer is whether there are any. An Option of the lent zone can't be handed on by a caller that lends it again where
+// there is none (rustc's E0499), and would lose what the zone is then.
 #![tactic(auto)]
 
-ghost use Rattle.std.specs.Prelude.{◌≡◌, ◌++◌};
+ghost use Rattle.std.specs.Prelude.{◌≡◌};
 ghost use Rattle.base.specs.Options.{is_some};
 ghost use Rattle.job.specs.Meaning.{clause_of, condition_of};
 ghost use Rattle.zone.specs.Zone.{columns_of};
@@ -15,24 +15,14 @@ ghost use Rattle.conditions.specs.Uses.{ClauseFits, ConditionFits};
 use job::{Clause, Condition};
 use zone::Zone;
 
-// Keeps the rows that meet the clause; where there are none it says so, and stops at the comparison that leaves none.
-pub fn impose_clause<const N: usize>(z: &mut Zone<N>, c: &Clause) -> bool
-    requires { ClauseFits (columns_of z.old) c.now }
-    ensures answer { result ≡ is_some (imposed_all z.old (clause_of c.now)) }
-    ensures zone { z.new ≡ reached z.old (clause_of c.now) }
-{
-    solver::impose_all(z, c.comparisons())
-}
-
-// Lays the rows of a zone that meet both clauses into another; where there are none it says so, and stops at the comparison that leaves
-// none.
-pub fn lay_pair<const N: usize>(z: &Zone<N>, c: &Clause, e: &Clause, to: &mut Zone<N>) -> bool
-    requires { ClauseFits (columns_of z.now) c.now × ClauseFits (columns_of z.now) e.now }
-    ensures answer { result ≡ is_some (imposed_all z.now (clause_of c.now ++ clause_of e.now)) }
-    ensures zone { to.new ≡ reached z.now (clause_of c.now ++ clause_of e.now) }
+// Lays the rows of a zone that meet a clause into another; where there are none it says so, and stops at the comparison that leaves none.
+pub fn lay_clause<const N: usize>(z: &Zone<N>, c: &Clause, to: &mut Zone<N>) -> bool
+    requires { ClauseFits (columns_of z.now) c.now }
+    ensures answer { result ≡ is_some (imposed_all z.now (clause_of c.now)) }
+    ensures zone { to.new ≡ reached z.now (clause_of c.now) }
 {
     to.copy_from(z);
-    impose_clause(to, c) && impose_clause(to, e)
+    solver::impose_all(to, c.comparisons())
 }
 
 // The condition that every row meets, which stands in where only one is asked for: by a clause that asks nothing.
@@ -51,8 +41,7 @@ pub fn met<const N: usize>(z: &Zone<N>, k: &Condition, out: &mut Zone<N>) -> boo
     ensures { Ends (met z.now (condition_of k.now)) result out.new }
 {
     for c in k.clauses() {
-        out.copy_from(z);
-        if impose_clause(out, c) {
+        if lay_clause(z, c, out) {
             return true;
         }
     }

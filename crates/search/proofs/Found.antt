@@ -17,7 +17,7 @@ use Rattle.solver.specs.Solver.{bounds_fit}
 use Rattle.conditions.specs.Uses.{condition_fits}
 use Rattle.conditions.proofs.Stands.{Stands, obeys}
 use Rattle.conditions.proofs.Sought.{Sought, sought_as, first_sought}
-use Rattle.conditions.proofs.Both.{pairs_sought}
+use Rattle.conditions.proofs.Sought.{pairs_sought}
 use Rattle.breaking.specs.Breaking.{choices_of, chosen}
 use Rattle.breaking.specs.Places.{in_order}
 use Rattle.breaking.proofs.Sizes.{four_choices}

@@ -83,10 +83,11 @@ fn order_by(weights: [usize; Job::CLAUSES]) -> [usize; Job::CLAUSES]
 
 // ---- Rows that break every clause
 
-// Zones that a search lays rows into on its way: those that meet a pair of clauses, and of these those that break one clause, two, and
-// three. What they hold afterwards is nobody's concern.
+// Zones that a search lays rows into on its way: those that meet the first clause of a pair, and of these those that meet the second one
+// too, and of these those that break one clause, two, and three. What they hold afterwards is nobody's concern.
 #[derive(Drop)]
 pub struct Scratch<const N: usize> {
+    pub first: Zone<N>,
     pub pair: Zone<N>,
     pub one: Zone<N>,
     pub two: Zone<N>,
@@ -96,9 +97,10 @@ pub struct Scratch<const N: usize> {
 impl<const N: usize> Scratch<N> {
     pub fn new() -> Self
         requires { 33 ≤ N }
-        ensures { result ≡ record { pair = point; one = point; two = point; three = point } }
+        ensures { result ≡ record { first = point; pair = point; one = point; two = point; three = point } }
     {
         Self {
+            first: Zone::new(),
             pair: Zone::new(),
             one: Zone::new(),
             two: Zone::new(),
@@ -147,9 +149,10 @@ fn broken<const N: usize>(
     found
 }
 
-// Some rows of a zone that meet both conditions and break every clause of another, or none. Document 01 has labelled loops here, as in
-// `broken`, and no function that takes what is done with a pair of clauses. The zone and the two conditions are no struct, here and in
-// twins: each search has others of them, and its contract names each.
+// Some rows of a zone that meet both conditions and break every clause of another, or none. Rows that meet a clause of the first are laid
+// once for all clauses of the second. Document 01 has labelled loops here, as in `broken`, and no function that takes what is done with a
+// pair of clauses. The zone and the two conditions are no struct, here and in twins: each search has others of them, and its contract
+// names each.
 pub fn outside<const N: usize>(
     z: &Zone<N>,
     a: &Condition,
@@ -163,18 +166,20 @@ pub fn outside<const N: usize>(
 {
     let mut found = false;
     'first: for c in a.clauses() {
-        'second: for e in b.clauses() {
-            if conditions::lay_pair(z, c, e, &mut on_way.pair) {
-                if broken(
-                    &on_way.pair,
-                    k,
-                    &mut on_way.one,
-                    &mut on_way.two,
-                    &mut on_way.three,
-                    out,
-                ) {
-                    found = true;
-                    break 'first;
+        if conditions::lay_clause(z, c, &mut on_way.first) {
+            'second: for e in b.clauses() {
+                if conditions::lay_clause(&on_way.first, e, &mut on_way.pair) {
+                    if broken(
+                        &on_way.pair,
+                        k,
+                        &mut on_way.one,
+                        &mut on_way.two,
+                        &mut on_way.three,
+                        out,
+                    ) {
+                        found = true;
+                        break 'first;
+                    }
                 }
             }
         }

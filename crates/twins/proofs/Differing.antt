@@ -20,7 +20,7 @@ use Rattle.solver.specs.Solver.{imposed, imposed_by}
 use Rattle.job.specs.declared.Condition.{Condition}
 use Rattle.job.specs.Meaning.{condition_of}
 use Rattle.conditions.specs.Meeting.{pairs_of}
-use Rattle.conditions.proofs.Both.{pairs_none}
+use Rattle.conditions.proofs.Nothing.{pairs_none}
 use Rattle.twins.specs.Pairs.{columns_by, apart, some_apart, if_differ}
 use Rattle.twins.specs.Uses.{Differs}
 

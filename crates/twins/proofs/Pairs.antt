@@ -9,7 +9,7 @@ use lib.Dec.{T, ltb, lt→ltb}
 use mir.Facts.{yes_and}
 use Rattle.base.proofs.Options.{first_some}
 use Rattle.base.specs.Lists.{◌∈◌, any_of, all_of}
-use Rattle.base.specs.Options.{and_then, is_some, first_of}
+use Rattle.base.specs.Options.{and_then, is_some}
 use Rattle.base.proofs.Lists.{all_has}
 use Rattle.words.specs.Compare.{holds, eq_z}
 use Rattle.words.specs.declared.Op.{Op}
@@ -20,12 +20,11 @@ use Rattle.model.specs.Rows.{some_row}
 use Rattle.zone.specs.Zone.{Zone, can_differ}
 use Rattle.solver.specs.Solver.{bounds_fit, comparison_fits, imposed, imposed_all}
 use Rattle.solver.proofs.Comparisons.{opposites_hold}
-use Rattle.conditions.specs.Meeting.{both, pairs_of}
-use Rattle.conditions.proofs.Both.{both_fit, pairs_sought}
+use Rattle.conditions.specs.Meeting.{by_clause, pairs_of}
 use Rattle.twins.specs.Pairs.{columns_by, apart, some_apart, if_differ}
 use Rattle.conditions.specs.Uses.{condition_fits}
 use Rattle.conditions.proofs.Stands.{Stands, Left, comparison_left, clause_left, differ_sought}
-use Rattle.conditions.proofs.Sought.{Sought, sought_as, sought_is, left_sought, either_sought, first_sought}
+use Rattle.conditions.proofs.Sought.{Sought, sought_as, sought_is, left_sought, either_sought, first_sought, pairs_sought}
 
 module _ (bs : List Bounds) (fit : T (all_of bounds_fit bs)) where
   -- ---- two columns
@@ -70,7 +69,7 @@ module _ (bs : List Bounds) (fit : T (all_of bounds_fit bs)) where
     then_some p q (some y) a = same (λ r. p r && q r) y a
 
     clauses_some : (p : Row → Bool) (z : Zone) → Stands bs p z → (k : Condition) → T (condition_fits (length bs) k)
-        → is_some (first_of k (λ c. and_then (imposed_all z c) f)) ≡ is_some (first_of k (λ c. and_then (imposed_all z c) g))
+        → is_some (by_clause z k f) ≡ is_some (by_clause z k g)
     clauses_some p z s k fits = first_some (λ c. and_then (imposed_all z c) f) (λ c. and_then (imposed_all z c) g) k (λ c m.
         then_some p (λ r. clause_holds r c) (imposed_all z c) (clause_left bs fit p z s c (all_has (all_of (comparison_fits (length bs))) m fits)))
 
@@ -80,7 +79,7 @@ module _ (bs : List Bounds) (fit : T (all_of bounds_fit bs)) where
         → is_some (pairs_of z k l f) ≡ is_some (pairs_of z k l g)
     unfolding pairs_of
     pairs_some f g same =
-        clauses_some f g same p z s (both k l) (both_fit (length bs) k l fk fl)
+        clauses_some (λ y. by_clause y l f) (λ y. by_clause y l g) (λ q y u. clauses_some f g same q y u l fl) p z s k fk
 
     -- so one look in each pair of clauses tells whether two columns differ in some row that meets both conditions
     pub pairs_differ : (a b : ℕ) → a < length bs → b < length bs

@@ -167,13 +167,15 @@ impl TwinRows {
         cs.iter().all(|c| self.twin[usize::from(*c)] == *c)
     }
 
-    // Some rows of a zone that meet both conditions and are separated so, or none.
+    // Some rows of a zone that meet both conditions and are separated so, or none. Rows that meet a clause of the first are laid once for all
+    // clauses of the second, here and in `mark_pairs`.
     pub fn differ<const N: usize>(
         &self,
         z: &Zone<N>,
         k: &Condition,
         l: &Condition,
         cs: &[u8],
+        first: &mut Zone<N>,
         out: &mut Zone<N>,
     ) -> bool
         requires { Differs z.now k.now l.now cs.now self.now.twin }
@@ -184,10 +186,12 @@ impl TwinRows {
         if self.all_shared(cs) {
             return false;
         }
-        for first in k.clauses() {
-            for second in l.clauses() {
-                if conditions::lay_pair(z, first, second, out) && self.separate(out, cs) {
-                    return true;
+        for c in k.clauses() {
+            if conditions::lay_clause(z, c, first) {
+                for e in l.clauses() {
+                    if conditions::lay_clause(&*first, e, out) && self.separate(out, cs) {
+                        return true;
+                    }
                 }
             }
         }
@@ -212,14 +216,15 @@ impl TwinRows {
         (0..marks.len()).all(|c| marks[c] || usize::from(self.twin[c]) == c)
     }
 
-    // Marks the columns, one for each mark, whose values can differ so in the rows that meet both conditions. The rows of each pair of
-    // clauses are laid into y. Every pair may mark a column, while `differ` ends with the first that gives a row: so each has its own loop.
+    // Marks the columns, one for each mark, whose values can differ so in the rows that meet both conditions. Every pair of clauses may mark
+    // a column, while `differ` ends with the first that gives a row: so each has its own loops.
     pub fn mark_pairs<const N: usize>(
         &self,
         z: &Zone<N>,
         k: &Condition,
         l: &Condition,
-        y: &mut Zone<N>,
+        first: &mut Zone<N>,
+        pair: &mut Zone<N>,
         marks: &mut [bool],
     )
         requires { Marks z.now k.now l.now (length marks.old) self.now.twin }
@@ -228,13 +233,15 @@ impl TwinRows {
     {
         // a column doesn't differ from itself, since a zone is closed, as `nodes` tells
         let _ = z.nodes();
-        for first in k.clauses() {
-            for second in l.clauses() {
-                if self.all_marked(&*marks) {
-                    return;
-                }
-                if conditions::lay_pair(z, first, second, y) {
-                    self.mark(&*y, marks);
+        for c in k.clauses() {
+            if conditions::lay_clause(z, c, first) {
+                for e in l.clauses() {
+                    if self.all_marked(&*marks) {
+                        return;
+                    }
+                    if conditions::lay_clause(&*first, e, pair) {
+                        self.mark(&*pair, marks);
+                    }
                 }
             }
         }

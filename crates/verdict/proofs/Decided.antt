@@ -13,9 +13,8 @@ use Rattle.model.specs.Verdict.{columns, tables_differ, first_kind, kind1, kind2
 use Rattle.conditions.specs.Meeting.{always}
 use Rattle.twins.specs.Pairs.{some_apart}
 use Rattle.conditions.proofs.Stands.{Stands, box_stands}
-use Rattle.conditions.proofs.Sought.{Sought, sought_as, sought_is, met_sought}
+use Rattle.conditions.proofs.Sought.{Sought, sought_as, sought_is, met_sought, pairs_sought}
 use Rattle.search.proofs.Found.{outside_sought}
-use Rattle.conditions.proofs.Both.{pairs_sought}
 use Rattle.twins.proofs.Pairs.{some_apart_lem, pairs_differ}
 use Rattle.verdict.specs.Found.{twin, both_bounds, keeps_one, keeps_other, wants_one, wants_other, box, box2, found1, found2, found3, found4, unfixed_in, found_kind}
 use Rattle.verdict.proofs.Reduced.{differ, asked3, asked4, unfixed, kind_1_sought, kind_2_sought, kind_3_sought, kind_4_sought, fixed_sought}

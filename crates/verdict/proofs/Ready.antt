@@ -27,12 +27,12 @@ use Rattle.job.specs.contracts.Columns as declared_columns
 use Rattle.job.specs.contracts.Expression as expression
 use Rattle.job.proofs.Records.{Sized, SizedExpression, sized_columns, sized_expression}
 use Rattle.job.proofs.Declared.{width_is, bounds_are, extract_is, query_is}
-use Rattle.job.proofs.Counts.{outputs_fit, clauses_fit, comparisons_fit, condition_is, tables_below}
+use Rattle.job.proofs.Counts.{clauses_fit, comparisons_fit, condition_is, tables_below}
 use Rattle.zone.specs.Zone.{Zone, columns_of}
 use Rattle.solver.specs.Solver.{bounds_fit, box_of, imposed_all}
 use Rattle.solver.specs.Uses.{BoundsRoom}
 use Rattle.solver.proofs.Formed.{outputs_declared}
-use Rattle.conditions.specs.Meeting.{both, met, pairs_of, always}
+use Rattle.conditions.specs.Meeting.{by_clause, met, pairs_of, always}
 use Rattle.conditions.specs.Uses.{condition_fits, Small, ConditionFits}
 use Rattle.conditions.proofs.Stands.{Stands}
 use Rattle.twins.specs.declared.TwinRows.{TwinRows}
@@ -49,13 +49,16 @@ use Rattle.verdict.proofs.Limits.{taken, both_fit, both_most, keeps_one_lem, kee
 use Rattle.verdict.proofs.Decided.{every, one, two}
 
 -- ---- searches with another function that agrees
-pairs_cong : (z : Zone) (k l : model.Condition) (f g : Zone → Option Zone) → ((y : Zone) → f y ≡ g y) → pairs_of z k l f ≡ pairs_of z k l g
-unfolding pairs_of
-pairs_cong z k l f g h = first_cong (λ c. and_then (imposed_all z c) f) (λ c. and_then (imposed_all z c) g) (both k l) (λ c m. go (imposed_all z c))
+clauses_cong : (z : Zone) (k : model.Condition) (f g : Zone → Option Zone) → ((y : Zone) → f y ≡ g y) → by_clause z k f ≡ by_clause z k g
+clauses_cong z k f g h = first_cong (λ c. and_then (imposed_all z c) f) (λ c. and_then (imposed_all z c) g) k (λ c m. go (imposed_all z c))
   where
     go : (o : Option Zone) → and_then o f ≡ and_then o g
     go none = refl
     go (some y) = h y
+
+pairs_cong : (z : Zone) (k l : model.Condition) (f g : Zone → Option Zone) → ((y : Zone) → f y ≡ g y) → pairs_of z k l f ≡ pairs_of z k l g
+unfolding pairs_of
+pairs_cong z k l f g h = clauses_cong z k (λ y. by_clause y l f) (λ y. by_clause y l g) (λ y. clauses_cong y l f g h)
 
 apart_cong : (f g : ℕ → ℕ) (cs : List ℕ) → ((c : ℕ) → c ∈ cs → f c ≡ g c) → (z : Zone) → some_apart f cs z ≡ some_apart g cs z
 unfolding some_apart

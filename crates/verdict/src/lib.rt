@@ -74,7 +74,7 @@ fn find_two<const N: usize>(
     if search::outside(z, keeps, wants, &*choices, on_way, out) {
         return Kind::ConditionHidden;
     }
-    if rows.differ(z, wants, others, cs, out) {
+    if rows.differ(z, wants, others, cs, &mut on_way.first, out) {
         return Kind::OutputHidden;
     }
     Kind::Computable
@@ -141,6 +141,7 @@ fn decide_sized<const N: usize>(
         &z,
         keeps,
         &keeps_other,
+        &mut on_way.first,
         &mut on_way.pair,
         &mut marks[..k.width],
     );

@@ -1,57 +1,69 @@
 use native.Mathlib.Omega.{arith}
 use borrow.Author.Rules.{rules}
 use mathlib.Core.Path.{refl, sym, ap, ◌∙◌}
-use mathlib.Core.Logic.{inl, inr}
 use lib.ListN.{length}
-use Rattle.conditions.proofs.Lists.{reached_length}
+use Rattle.conditions.specs.Meeting.{pairs_of}
+use Rattle.conditions.proofs.Clauses.{item_fits}
+use Rattle.conditions.proofs.Meeting.{laid_length}
 use Rattle.twins.proofs.Marking.{marked_differ}
-use Rattle.twins.proofs.Pairing.{marks_start, marks_end, marks_settled, marks_turn}
-use Rattle.conditions.proofs.Turns.{turns_row, turn_asks}
+use Rattle.twins.proofs.Pairing.{marks_end, marks_without, marks_with, marks_settled}
 use Rattle.twins.proofs.TwinRows.mark_pairs.Goals as goal
-use Rattle.twins.proofs.TwinRows.mark_pairs.Goals.{then-lay_pair, else-lay_pair}
+use Rattle.twins.proofs.TwinRows.mark_pairs.Goals.{then-lay_clause-2, else-lay_clause-2, then-lay_clause+else-loop-e-test, else-lay_clause}
 
-pub loop-first-init : goal.loop-first-init
-loop-first-init g c = (refl, marks_start _ _ _ _ _ _)
+pub loop-c-init : goal.loop-c-init
+unfolding pairs_of
+loop-c-init g c = (refl, refl)
 
-pub returns-then-all_marked : goal.returns-then-all_marked
-returns-then-all_marked g c =
-    let all = sym c.all_marked.ensures ∙ c.if-all_marked.true in
-    sym (marks_settled _ _ _ _ _ c.requires c.nodes.ensures.closed c.loop-first.first-index c.loop-second.second-index c.loop-second.marks
-    (rw c.loop-second.invariant.0 at all)) ∙ c.loop-second.invariant.1
-
-pub lay_pair-requires : goal.lay_pair-requires
-lay_pair-requires g c = (
+pub lay_clause-requires-in-loop-e : goal.lay_clause-requires-in-loop-e
+lay_clause-requires-in-loop-e g c = (
   search rules,
-  turn_asks _ _ c.clauses-first-items.ensures c.clauses-second-items.ensures
-      c.loop-first-test.true c.loop-second-test.true c.requires.searches,
+  rw (laid_length _ _ c.lay_clause.ensures) (item_fits _ c.clauses-e-items.ensures c.loop-e-test.true c.requires.searches.second),
 )
 
 pub mark-requires : goal.mark-requires
-mark-requires g c = (search rules, rw (c.lay_pair.ensures.zone, reached_length _ _, c.loop-second.invariant.0) c.requires.paired)
-
-pub loop-second-preserved : goal.loop-second-preserved
-loop-second-preserved g c = (
-  elim c.if-lay_pair.branch [
-    | then-lay_pair w ↦ ap length w.marks-is ∙ w.mark.auto.marks ∙ c.loop-second.invariant.0
-    | else-lay_pair w ↦ ap length w.marks-is ∙ c.loop-second.invariant.0
-  ],
-  marks_turn _ _ _ _ _ c.clauses-first-items.ensures c.clauses-second-items.ensures c.loop-first-test.true c.loop-second-test.true
-      (c.lay_pair.ensures.answer, c.lay_pair.ensures.zone)
-      c.loop-second.marks (omega (arith, c.loop-second.invariant.0))
-      (elim c.if-lay_pair.branch [
-        | then-lay_pair w ↦ inl (
-          w.if-lay_pair.true,
-          w.marks-is ∙ (rw c.loop-second.invariant.0 at w.mark.ensures) ∙ marked_differ _ _ _ _,
-        )
-        | else-lay_pair w ↦ inr (w.if-lay_pair.false, w.marks-is)
-      ]) ∙ c.loop-second.invariant.1,
+mark-requires g c = (
+  search rules,
+  rw (laid_length _ _ c.lay_clause-in-loop-e.ensures, laid_length _ _ c.lay_clause.ensures, c.loop-e.invariant.0) c.requires.paired,
 )
 
-pub loop-first-preserved : goal.loop-first-preserved
-loop-first-preserved g c =
-    let row = turns_row c.args.k.now c.args.l.now c.clauses-second-items.ensures c.loop-first.first-index c.loop-second.second-index
-    (omega (arith, c.loop-second-test.false, c.loop-second.auto.second-index-end)) in
-    (c.loop-second.invariant.0, (rw row at c.loop-second.invariant.1))
+pub returns-then-all_marked : goal.returns-then-all_marked
+returns-then-all_marked g c =
+    marks_settled c.requires c.nodes.ensures.closed _ c.loop-e.invariant.0 (sym c.all_marked.ensures ∙ c.if-all_marked.true) c.clauses-c-items.ensures
+    c.loop-c-test.true c.lay_clause.ensures c.if-lay_clause.true c.loop-c.marks (omega (arith, c.loop-c.invariant.0)) c.loop-e.e-index
+    c.loop-e.invariant.1 ∙ c.loop-c.invariant.1
+
+pub loop-e-preserved : goal.loop-e-preserved
+loop-e-preserved g c =
+    elim c.if-lay_clause-2.branch [
+      | then-lay_clause-2 w ↦ (
+        ap length w.marks-is ∙ w.mark.auto.marks ∙ c.loop-e.invariant.0,
+        marks_with _ c.clauses-e-items.ensures _ _ _ c.loop-e-test.true c.lay_clause-in-loop-e.ensures c.loop-e.marks w.if-lay_clause-2.true
+            (omega (arith, c.loop-e.invariant.0))
+            (w.marks-is ∙ (rw c.loop-e.invariant.0 at w.mark.ensures) ∙ marked_differ _ _ _ _) ∙ c.loop-e.invariant.1,
+      )
+      | else-lay_clause-2 w ↦ (
+        ap length w.marks-is ∙ c.loop-e.invariant.0,
+        rw w.marks-is (marks_without _ c.clauses-e-items.ensures _ _ _ c.loop-e-test.true c.lay_clause-in-loop-e.ensures c.loop-e.marks w.if-lay_clause-2.false)
+            ∙ c.loop-e.invariant.1,
+      )
+    ]
+
+pub loop-c-preserved : goal.loop-c-preserved
+loop-c-preserved g c =
+    elim c.if-lay_clause.branch [
+      | then-lay_clause+else-loop-e-test w ↦ (
+        ap length w.marks-is ∙ w.loop-e.invariant.0,
+        marks_with _ c.clauses-c-items.ensures _ _ _ c.loop-c-test.true c.lay_clause.ensures c.loop-c.marks w.if-lay_clause.true
+            (omega (arith, c.loop-c.invariant.0))
+            (w.marks-is ∙ sym (marks_end _ w.clauses-e-items.ensures _ _ _ w.loop-e.marks (omega (arith, w.loop-e-test.false))) ∙ w.loop-e.invariant.1)
+            ∙ c.loop-c.invariant.1,
+      )
+      | else-lay_clause w ↦ (
+        ap length w.marks-is ∙ c.loop-c.invariant.0,
+        rw w.marks-is (marks_without _ c.clauses-c-items.ensures _ _ _ c.loop-c-test.true c.lay_clause.ensures c.loop-c.marks w.if-lay_clause.false)
+            ∙ c.loop-c.invariant.1,
+      )
+    ]
 
 pub returns : goal.returns
-returns g c = sym (marks_end _ _ _ _ _ c.clauses-first-items.ensures c.loop-first.marks (omega (arith, c.loop-first-test.false))) ∙ c.loop-first.invariant.1
+returns g c = sym (marks_end _ c.clauses-c-items.ensures _ _ _ c.loop-c.marks (omega (arith, c.loop-c-test.false))) ∙ c.loop-c.invariant.1
