@@ -19,7 +19,9 @@ use search::Scratch;
 use twins::TwinRows;
 use zone::Zone;
 
-// The entries of a zone of few columns: node 0 and up to twelve others.
+// The entries of a zone of few columns: node 0 and up to six others, or up to twelve.
+const SMALLEST: usize = 7 * zone::WIDTH;
+
 const SMALL: usize = 13 * zone::WIDTH;
 
 // ---- The kind
@@ -158,6 +160,9 @@ pub fn decide(k: Columns, extract: Expression, query: Expression) -> Verdict
 {
     let rows = TwinRows::of(&k, extract.output_columns());
     // With few columns in two rows as one, as nearly always, the zones are small, since to zero them would take longer than all the rest.
+    if rows.columns < 7 {
+        return decide_sized::<SMALLEST>(k, extract, query, &rows);
+    }
     if rows.columns < 13 {
         return decide_sized::<SMALL>(k, extract, query, &rows);
     }
