@@ -1,6 +1,6 @@
 -- One level of the search: the ways of one clause, each tried in turn with the later clauses. Assumes nothing.
-use mathlib.Core.Path.{◌≡◌, sym, ap, ◌∙◌}
-use mathlib.Core.Bool.{Bool, true, false}
+use mathlib.Core.Path.{◌≡◌, refl, sym, ap, ◌∙◌}
+use mathlib.Core.Bool.{Bool, true, false, cond, ◌&&◌}
 use mathlib.Core.List.{List, []}
 use mathlib.Core.Option.{Option, none, some}
 use Prim.Native.Nat.{ℕ, suc, ◌+◌, ◌-◌, ◌<◌, ◌≤◌}
@@ -14,9 +14,9 @@ use Rattle.base.specs.Options.{and_then, first_of}
 use Rattle.base.proofs.Options.{none_of, then_none, then_some}
 use Rattle.base.proofs.Turns.{first_none, first_more, first_found}
 use Rattle.zone.specs.declared.Constraint.{Constraint}
-use Rattle.zone.specs.Zone.{Zone}
+use Rattle.zone.specs.Zone.{Zone, allows, tightened, constrained, kept}
 use Rattle.conditions.specs.Meeting.{Ends}
-use Rattle.conditions.proofs.Meeting.{some_of, ends_some}
+use Rattle.conditions.proofs.Meeting.{some_of, ends_none, ends_some}
 use Rattle.breaking.specs.declared.Choices.{Choices}
 use Rattle.breaking.specs.Breaking.{free, chosen}
 use Rattle.breaking.specs.Places.{ways_in, choices_in, clause_ways, in_order}
@@ -172,6 +172,21 @@ module _ {n : ℕ} {k : Choices} {o : List ℕ} {goal : Option Zone} {j : ℕ} {
           let four = l.ready.order.four in
           let all-broken = drop_of_length-le ks {i = suc j} (omega (arith, order_length k o)) in
           ends_some e (deeper some_row e (rw all-broken))
+
+-- ---- the ways of the last clause are imposed on the zone itself, as no clause is left to look ahead at
+module _ (z : Zone) (c : Constraint) (o : List ℕ) (k : Choices) {r : Bool} {e : Zone} (told : r ≡ allows z c) (left : e ≡ kept z (constrained z c)) where
+  pub last_ends : Ends (chosen z c (in_order (take (4 - suc 3) (drop (suc 3) o)) (choices_in k))) r e
+  unfolding chosen constrained in_order
+  last_ends = rw (told, left) (go (allows z c))
+    where
+      go : (b : Bool) → Ends (cond (b && true) (some (tightened z c)) none) b (kept z (cond b (some (tightened z c)) none))
+      go true = ends_some (tightened z c) refl
+      go false = ends_none z refl
+
+  -- and with none it stays as it is
+  pub last_stays : r ≡ false → e ≡ z
+  unfolding constrained
+  last_stays none_left = let no : allows z c ≡ false = sym told ∙ none_left in rw (left, no) refl
 
 -- ---- the whole search: o is the order, a what the clauses weigh
 pub search_is : (z : Zone) (count : ℕ) (ks : List (List Constraint)) (a : List ℕ) {o : List ℕ} → a ≡ weights z count ks → o ≡ order_by a

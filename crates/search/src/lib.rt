@@ -84,39 +84,37 @@ fn order_by(weights: [usize; Job::CLAUSES]) -> [usize; Job::CLAUSES]
 // ---- Rows that break every clause
 
 // Zones that a search lays rows into on its way: those that meet the first clause of a pair, and of these those that meet the second one
-// too, and of these those that break one clause, two, and three. What they hold afterwards is nobody's concern.
+// too, and of these those that break one clause, and two. What they hold afterwards is nobody's concern.
 #[derive(Drop)]
 pub struct Scratch<const N: usize> {
     pub first: Zone<N>,
     pub pair: Zone<N>,
     pub one: Zone<N>,
     pub two: Zone<N>,
-    pub three: Zone<N>,
 }
 
 impl<const N: usize> Scratch<N> {
     pub fn new() -> Self
         requires { 33 ≤ N }
-        ensures { result ≡ record { first = point; pair = point; one = point; two = point; three = point } }
+        ensures { result ≡ record { first = point; pair = point; one = point; two = point } }
     {
         Self {
             first: Zone::new(),
             pair: Zone::new(),
             one: Zone::new(),
             two: Zone::new(),
-            three: Zone::new(),
         }
     }
 }
 
-// Some rows of a zone that break every clause, or none: by one way of each clause after the other. The zones between are lent one by one,
-// since x is another part of the same scratch.
+// Some rows of a zone that break every clause, or none: by one way of each clause after the other. The ways of the last clause need no zone
+// of their own, since no clause is left to look ahead at. The zones between are lent one by one, since x is another part of the same
+// scratch.
 fn broken<const N: usize>(
     x: &Zone<N>,
     k: &Choices,
     y: &mut Zone<N>,
     v: &mut Zone<N>,
-    w: &mut Zone<N>,
     out: &mut Zone<N>,
 ) -> bool
     requires { Weighs (length x.now) k.now }
@@ -133,9 +131,9 @@ fn broken<const N: usize>(
             'two: for b in two {
                 if choose(&*y, v, *b, k, &order[2..]) {
                     'three: for c in three {
-                        if choose(&*v, w, *c, k, &order[3..]) {
+                        if choose(&*v, out, *c, k, &order[3..]) {
                             'four: for d in four {
-                                if choose(&*w, out, *d, k, &order[4..]) {
+                                if out.constrain(*d) {
                                     found = true;
                                     break 'one;
                                 }
@@ -169,14 +167,7 @@ pub fn outside<const N: usize>(
         if conditions::lay_clause(z, c, &mut on_way.first) {
             'second: for e in b.clauses() {
                 if conditions::lay_clause(&on_way.first, e, &mut on_way.pair) {
-                    if broken(
-                        &on_way.pair,
-                        k,
-                        &mut on_way.one,
-                        &mut on_way.two,
-                        &mut on_way.three,
-                        out,
-                    ) {
+                    if broken(&on_way.pair, k, &mut on_way.one, &mut on_way.two, out) {
                         found = true;
                         break 'first;
                     }

@@ -2,7 +2,7 @@ use borrow.Author.Rules.{rules}
 use native.Mathlib.Omega.{arith}
 use mathlib.Core.Path.{refl, sym, ◌∙◌}
 use Rattle.conditions.proofs.Meeting.{ends_none}
-use Rattle.search.proofs.Levels.{ready_by, level_start, level_end, level_asks, turn_down, turn_barren, turn_shut, turn_ends, order_four, search_is}
+use Rattle.search.proofs.Levels.{ready_by, level_start, level_end, level_asks, turn_down, turn_barren, turn_shut, turn_ends, last_ends, last_stays, order_four, search_is}
 use Rattle.search.proofs.broken.Goals as goal
 use Rattle.search.proofs.broken.Goals.{else-choose, else-choose-2, else-choose-3, then-choose+else-two-test, then-choose-2+else-three-test, then-choose-3+else-four-test}
 
@@ -59,23 +59,32 @@ pub choose-requires-in-three : goal.choose-requires-in-three
 choose-requires-in-three g c = (search rules, level_asks c.three.invariant c.as_slice-three.ensures _ c.three-test.true)
 
 pub four-init : goal.four-init
-four-init g c =
-    turn_down c.three.invariant c.as_slice-three.ensures _ c.three-test.true _ c.choose-in-three.ensures
-    (omega arith) c.if-choose-3.true
+four-init g c = (
+  refl,
+  turn_down c.three.invariant c.as_slice-three.ensures _ c.three-test.true _ c.choose-in-three.ensures
+      (omega arith) c.if-choose-3.true,
+)
 
-pub choose-requires-in-four : goal.choose-requires-in-four
-choose-requires-in-four g c = (search rules, level_asks c.four.invariant c.as_slice-four.ensures _ c.four-test.true)
+pub constrain-requires : goal.constrain-requires
+constrain-requires g c = (
+  search rules,
+  rw c.four.invariant.0 (level_asks c.four.invariant.1 c.as_slice-four.ensures _ c.four-test.true).way,
+)
 
 pub four-preserved : goal.four-preserved
 four-preserved g c =
-    turn_shut c.four.invariant c.as_slice-four.ensures _ c.four-test.true _ c.choose-in-four.ensures
-    c.if-choose-4.false refl
+    let (same, left) = c.four.invariant in
+    let told = c.constrain.ensures in (
+      last_stays _ _ c.order_by-order.result c.args.k.now told.answer told.zone c.if-constrain.false ∙ same,
+      turn_shut left c.as_slice-four.ensures _ c.four-test.true _
+          (last_ends _ _ c.order_by-order.result c.args.k.now (rw same at told.answer) (rw same at told.zone)) c.if-constrain.false refl,
+    )
 
 pub three-preserved : goal.three-preserved
 three-preserved g c = elim c.if-choose-3.branch [
   | then-choose-3+else-four-test s ↦
       turn_barren c.three.invariant c.as_slice-three.ensures _ c.three-test.true _ c.choose-in-three.ensures
-      s.if-choose-3.true s.four.invariant c.as_slice-four.ensures s.four-test.false s.found-is
+      s.if-choose-3.true s.four.invariant.1 c.as_slice-four.ensures s.four-test.false s.found-is
   | else-choose-3 s ↦
       turn_shut c.three.invariant c.as_slice-three.ensures _ c.three-test.true _ c.choose-in-three.ensures
       s.if-choose-3.false s.found-is
@@ -107,7 +116,9 @@ returns-after-one g c =
     (ends_none _ (sym (search_is _ _ _ _ c.weigh.ensures c.order_by-order.ensures)
     ∙ level_end c.one.invariant c.as_slice-one.ensures c.one-test.false))
 
-pub returns-then-choose-4 : goal.returns-then-choose-4
-returns-then-choose-4 g c =
-    turn_ends c.four.invariant c.as_slice-four.ensures _ c.four-test.true _ c.choose-in-four.ensures
-    refl c.if-choose-4.true
+pub returns-then-constrain : goal.returns-then-constrain
+returns-then-constrain g c =
+    let (same, left) = c.four.invariant in
+    let told = c.constrain.ensures in
+    turn_ends left c.as_slice-four.ensures _ c.four-test.true _
+    (last_ends _ _ c.order_by-order.result c.args.k.now (rw same at told.answer) (rw same at told.zone)) refl c.if-constrain.true

@@ -1,5 +1,6 @@
 -- `search::broken` meets its contract. Assumes nothing.
 -- what the search is for
+use mathlib.Core.Path.{◌≡◌}
 use lib.ListN.{length}
 use mathlib.Core.Option.{Option}
 use Rattle.zone.specs.Zone.{Zone}
@@ -13,7 +14,7 @@ abbrev answer : Zone → Choices → Option Zone
 answer x k = broken_by x k.clauses (choices_in k)
 
 abbrev pub invariant-four : goal.invariant-four
-invariant-four g l = Trying (length l.x) l.k l.order (answer l.x l.k) 3 l.w l.d-index l.found
+invariant-four g l = (l.out ≡ l.initial.out) × Trying (length l.x) l.k l.order (answer l.x l.k) 3 l.initial.out l.d-index l.found
 
 abbrev pub invariant-three : goal.invariant-three
 invariant-three g l = Trying (length l.x) l.k l.order (answer l.x l.k) 2 l.v l.c-index l.found
