@@ -2,7 +2,8 @@ use borrow.Author.Rules.{rules}
 use native.Mathlib.Omega.{arith}
 use mathlib.Core.Path.{refl, sym, ◌∙◌}
 use Rattle.conditions.proofs.Meeting.{ends_none}
-use Rattle.search.proofs.Levels.{ready_by, level_start, level_end, level_asks, turn_down, turn_barren, turn_shut, turn_ends, last_ends, last_stays, order_four, search_is}
+use Rattle.search.proofs.Levels.{ready_by, level_start, level_end, level_asks, turn_down, turn_barren, turn_shut, turn_ends}
+use Rattle.search.proofs.Levels.{last_ends, last_stays, order_four, search_is}
 use Rattle.search.proofs.broken.Goals as goal
 use Rattle.search.proofs.broken.Goals.{else-choose, else-choose-2, else-choose-3, then-choose+else-two-test, then-choose-2+else-three-test, then-choose-3+else-four-test}
 
