@@ -2,15 +2,16 @@
 use mathlib.Core.Path.{◌≡◌, refl, sym, ap, ◌∙◌}
 use mathlib.Core.Bool.{Bool, true, false, cond, ◌||◌, or-true, or-false, false≢true}
 use mathlib.Core.List.Memᴰ
-use mathlib.Core.List.{List, [], ◌∷◌, append-nil}
+use mathlib.Core.List.{List, [], ◌∷◌, ◌++◌, append-nil}
 use Prim.Native.Nat.{ℕ, zero, suc, ◌+◌, ◌-◌, ◌*◌, ◌<◌, ◌≤◌, min}
 use native.Mathlib.Numerals.{add-one}
+use native.Mathlib.Nat.{add-zero}
 use native.Mathlib.Omega.{arith}
 use lib.Dec.{T, eqb, eqb→eq, eqb_refl}
+use mir.Val.{bool_byte}
 use lib.ListN.{length, set, take, length-set}
 use lib.Seq.{ext_get_or, get_or-set_same, get_or-set_other, take-suc}
-use Rattle.std.proofs.lemmas.List.{take_more_set}
-use borrow.Author.Tests.{lt-ltb, le-ltb}
+use Rattle.std.proofs.lemmas.List.{take-set, take_more_set}
 use Rattle.base.specs.Lists.{◌∈◌, any_of, filter, range, at}
 use Rattle.base.specs.Arrays.{filled}
 use Rattle.base.proofs.Lists.{any_has, has_any, any_append, filter_has, has_filter}
@@ -30,23 +31,34 @@ pub record Nearing (d : List ℕ) (c : Constraint) (j m : ℕ) (xs : List ℕ) :
   pub size : length xs ≡ 33
   pub so_far : take m xs ≡ filter (comes_closer d c) (range j)
 
-module _ {d : List ℕ} {c : Constraint} {j m : ℕ} {xs : List ℕ} (s : Nearing d c j m xs) where
-  pub nearing_more : j < 33 → at d (c.right * 33 + j) + c.most < at d (c.left * 33 + j) + level → Nearing d c (j + 1) (m + 1) (set xs m j)
-  nearing_more h nearer = record {
-    few = omega (arith, s.few);
-    size = length-set xs m j ∙ s.size;
-    so_far = take_more_set xs m j (omega (arith, s.few, s.size))
-        ∙ rw (s.so_far, add-one j, filter_range (comes_closer d c) j, lt-ltb (at d (c.right * 33 + j) + c.most) (at d (c.left * 33 + j) + level) nearer);
-  }
+-- node j is put behind them in any case, and counted if it is one
+pub nearing_turn : {d : List ℕ} {c : Constraint} {j m : ℕ} {xs : List ℕ} → Nearing d c j m xs → j < 33 → {k : ℕ}
+    → k ≡ bool_byte (comes_closer d c j) → (m + k ≤ j + 1) × Nearing d c (j + 1) (m + k) (set xs m j)
+nearing_turn {d} {c} {j} {m} {xs} s h {k} counted = go (comes_closer d c j) refl
+  where
+    size : length (set xs m j) ≡ 33
+    size = length-set xs m j ∙ s.size
 
-  pub nearing_same : at d (c.left * 33 + j) + level ≤ at d (c.right * 33 + j) + c.most → Nearing d c (j + 1) m xs
-  nearing_same far = record {
-    few = omega (arith, s.few);
-    size = s.size;
-    so_far = s.so_far
-        ∙ rw (add-one j, filter_range (comes_closer d c) j, le-ltb (at d (c.right * 33 + j) + c.most) (at d (c.left * 33 + j) + level) far)
-        (sym (append-nil (filter (comes_closer d c) (range j))));
-  }
+    go : (b : Bool) → comes_closer d c j ≡ b → (m + k ≤ j + 1) × Nearing d c (j + 1) (m + k) (set xs m j)
+    go true e =
+        let one : k ≡ 1 = rw e at counted in
+        let more : take (m + 1) (set xs m j) ≡ take m xs ++ j ∷ [] = take_more_set xs m j (omega (arith, s.few, s.size)) in
+        let few : m + k ≤ j + 1 = omega (arith, s.few, one) in (
+          few,
+          record { few = few; size = size; so_far = rw (one, more, s.so_far, add-one j, filter_range (comes_closer d c) j, e) refl },
+        )
+    go false e =
+        let none : k ≡ 0 = rw e at counted in
+        let same : take m (set xs m j) ≡ take m xs = take-set xs m j in
+        let few : m + k ≤ j + 1 = omega (arith, s.few, none) in (
+          few,
+          record {
+            few = few;
+            size = size;
+            so_far = rw (none, add-zero, same, s.so_far, add-one j, filter_range (comes_closer d c) j, e)
+                (sym (append-nil (filter (comes_closer d c) (range j))));
+          },
+        )
 
 -- ---- What stands where
 

@@ -1,9 +1,9 @@
 use native.Mathlib.Omega.{arith}
+use Prim.Native.Nat.{◌<◌}
 use mathlib.Core.Path.{◌≡◌, refl}
 use Rattle.zone.proofs.Ranges.{place_most}
-use Rattle.zone.proofs.Nearer.{nearing_more, nearing_same}
+use Rattle.zone.proofs.Nearer.{nearing_turn}
 use Rattle.zone.proofs.put_nearer.Goals as goal
-use Rattle.zone.proofs.put_nearer.Goals.{then-d-from, else-d-from}
 
 pub loop-j-init : goal.loop-j-init
 loop-j-init c = record { few = omega arith; size = c.told-nodes; so_far = refl }
@@ -18,15 +18,13 @@ pub bounds-nodes-count : goal.bounds-nodes-count
 bounds-nodes-count c = omega (arith, c.requires.in_array.small, c.loop-j.invariant.few, c.loop-j-test.true)
 
 pub overflow_add-count : goal.overflow_add-count
-overflow_add-count c = omega (arith, c.requires.in_array.small, c.loop-j.invariant.few, c.loop-j-test.true)
+overflow_add-count c =
+    let few : c.loop-j.j < 33 = omega (arith, c.requires.in_array.small, c.loop-j-test.true) in
+    omega (arith, few, (nearing_turn c.loop-j.invariant few c.from-count.ensures).0)
 
 pub loop-j-preserved : goal.loop-j-preserved
 loop-j-preserved c =
-    elim c.if-d-from.branch [
-      | then-d-from w ↦ rw (w.nodes-is, w.count-is)
-          (nearing_more c.loop-j.invariant (omega (arith, c.requires.in_array.small, c.loop-j-test.true)) w.if-d-from.true)
-      | else-d-from w ↦ rw (w.nodes-is, w.count-is) (nearing_same c.loop-j.invariant w.if-d-from.false)
-    ]
+    (nearing_turn c.loop-j.invariant (omega (arith, c.requires.in_array.small, c.loop-j-test.true)) c.from-count.ensures).1
 
 pub returns-clause-nodes : goal.returns-clause-nodes
 returns-clause-nodes c =
