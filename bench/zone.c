@@ -1,4 +1,5 @@
-// One constraint more on a closed zone, in plain C: the data, the order of work and the early exits of zone::constrain.
+// One constraint more on a closed zone, in plain C: the data and the early exits of zone::constrain, and a pass over all places of each row
+// that comes nearer, where zone::constrain lists rows and places first.
 // bench/run builds it once for each level of optimisation, with PLAIN as the function's name.
 #include "zone.h"
 

@@ -204,6 +204,9 @@ module _ {A : Type 0} where
     pub front_turn : {v : A} → n < all → v ≡ f n → Pass f 0 all (n + 1) xs (set ys n v)
     front_turn more same = rw zero-add at (pass_turn s more same)
 
+    front_part : all ≤ n → all ≤ length xs → ys ≡ tabulate all f ++ drop all xs
+    front_part past room = pass_end s past ∙ filled_front f all xs room
+
     pub front_end : all ≤ n → length xs ≡ all → ys ≡ tabulate all f
     front_end past full = pass_end s past ∙ filled_whole f all xs full
 
@@ -212,7 +215,12 @@ module _ {A : Type 0} where
       → ys ≡ list
   front_list d list {all} s past full size = front_end s past full ∙ sym (tabulated list (λ i. get_or list i d) all d size (λ i h. refl))
 
-  -- in the front of an array of empty entries, as a slice of it
+  -- in an array of empty entries
+  pub front_padded : (d : A) {f : ℕ → A} {m all n : ℕ} {ys : List A} → Pass f 0 all n (replicate m d) ys → all ≤ n → all ≤ m → ys ≡ padded m d (tabulate all f)
+  front_padded d {f} {m} {all} s past room =
+      front_part s past (omega (arith, length-replicate m d)) ∙ rw (tabulate_length all f, drop_replicate all m d)
+
+  -- in the front of such an array, as a slice of it
   module _ (d : A) {m all : ℕ} (room : all ≤ m) where
     pub front_size : length (take all (replicate m d)) ≡ all
     front_size = length-take-le all (replicate m d) (omega (arith, length-replicate m d))

@@ -96,6 +96,9 @@ map_tabulate g (suc n) f = ap (λ (m : List _). g (f 0) ∷ m) (map_tabulate g n
 pub range_has : (n : ℕ) {c : ℕ} → c ∈ range n → c < n
 range_has n m = let (i, h, e) = tabulate_has n (λ k. k) m in rw (← e) h
 
+pub range_in : (n : ℕ) {c : ℕ} → c < n → c ∈ range n
+range_in n {c} h = rw (tabulate_at n (λ k. k) c 0 h) at (element (range n) c 0 (omega (arith, tabulate_length n (λ k. k))))
+
 pub filter_range : (p : ℕ → Bool) (n : ℕ) → filter p (range (suc n)) ≡ filter p (range n) ++ filter p (n ∷ [])
 filter_range p n = ap (filter p) (tabulate_snoc n (λ k. k)) ∙ filter_append p (range n) (n ∷ [])
 

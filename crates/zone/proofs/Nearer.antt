@@ -1,4 +1,4 @@
--- Laws of rows that are lowered in the places of some nodes alone: those that a constraint's left node comes closer to. Assumes nothing.
+-- Laws of numbers that are listed, and of rows that are lowered in the places of listed nodes alone. Assumes nothing.
 use mathlib.Core.Path.{◌≡◌, refl, sym, ap, ◌∙◌}
 use mathlib.Core.Bool.{Bool, true, false, cond, ◌||◌, or-true, or-false, false≢true}
 use mathlib.Core.List.Memᴰ
@@ -12,40 +12,39 @@ use mir.Val.{bool_byte}
 use lib.ListN.{length, set, take, length-set}
 use lib.Seq.{ext_get_or, get_or-set_same, get_or-set_other, take-suc}
 use Rattle.std.proofs.lemmas.List.{take-set, take_more_set}
-use Rattle.base.specs.Lists.{◌∈◌, any_of, filter, range, at}
+use Rattle.base.specs.Lists.{◌∈◌, any_of, filter, tabulate, range, at}
 use Rattle.base.specs.Arrays.{filled}
 use Rattle.base.proofs.Lists.{any_has, has_any, any_append, filter_has, has_filter}
-use Rattle.base.proofs.Places.{element, range_has, filter_range, tabulate_length, tabulate_at, tabulated}
+use Rattle.base.proofs.Places.{element, range_has, range_in, filter_range, tabulate_length, tabulate_at, tabulated}
 use Rattle.base.proofs.Arrays.{filled_length, filled_in, filled_before, filled_after}
 use Rattle.base.proofs.Tests.{by_less, is_T, T-is}
-use Rattle.zone.specs.declared.Constraint.{Constraint}
 use Rattle.zone.specs.Zone.{level}
 use Rattle.zone.specs.Uses.{Lowers}
-use Rattle.zone.specs.Passes.{comes_closer, lowered, lowered_at}
+use Rattle.zone.specs.Passes.{lowered, lowered_at}
 
--- ---- The nodes, one after the other
+-- ---- Numbers, one after the other
 
--- of the first j nodes, those that the left node comes closer to are the first m of a list
-pub record Nearing (d : List ℕ) (c : Constraint) (j m : ℕ) (xs : List ℕ) : Type 0 where
+-- of the first j numbers, those that pass f are the first m of a list
+pub record Listing (f : ℕ → Bool) (j m : ℕ) (xs : List ℕ) : Type 0 where
   pub few : m ≤ j
   pub size : length xs ≡ 33
-  pub so_far : take m xs ≡ filter (comes_closer d c) (range j)
+  pub so_far : take m xs ≡ filter f (range j)
 
--- node j is put behind them in any case, and counted if it is one
-pub nearing_turn : {d : List ℕ} {c : Constraint} {j m : ℕ} {xs : List ℕ} → Nearing d c j m xs → j < 33 → {k : ℕ}
-    → k ≡ bool_byte (comes_closer d c j) → (m + k ≤ j + 1) × Nearing d c (j + 1) (m + k) (set xs m j)
-nearing_turn {d} {c} {j} {m} {xs} s h {k} counted = go (comes_closer d c j) refl
+-- number j is put behind them in any case, and counted if it is one
+pub listing_turn : {f : ℕ → Bool} {j m : ℕ} {xs : List ℕ} → Listing f j m xs → j < 33 → {k : ℕ}
+    → k ≡ bool_byte (f j) → (m + k ≤ j + 1) × Listing f (j + 1) (m + k) (set xs m j)
+listing_turn {f} {j} {m} {xs} s h {k} counted = go (f j) refl
   where
     size : length (set xs m j) ≡ 33
     size = length-set xs m j ∙ s.size
 
-    go : (b : Bool) → comes_closer d c j ≡ b → (m + k ≤ j + 1) × Nearing d c (j + 1) (m + k) (set xs m j)
+    go : (b : Bool) → f j ≡ b → (m + k ≤ j + 1) × Listing f (j + 1) (m + k) (set xs m j)
     go true e =
         let one : k ≡ 1 = rw e at counted in
         let more : take (m + 1) (set xs m j) ≡ take m xs ++ j ∷ [] = take_more_set xs m j (omega (arith, s.few, s.size)) in
         let few : m + k ≤ j + 1 = omega (arith, s.few, one) in (
           few,
-          record { few = few; size = size; so_far = rw (one, more, s.so_far, add-one j, filter_range (comes_closer d c) j, e) refl },
+          record { few = few; size = size; so_far = rw (one, more, s.so_far, add-one j, filter_range f j, e) refl },
         )
     go false e =
         let none : k ≡ 0 = rw e at counted in
@@ -55,10 +54,26 @@ nearing_turn {d} {c} {j} {m} {xs} s h {k} counted = go (comes_closer d c j) refl
           record {
             few = few;
             size = size;
-            so_far = rw (none, add-zero, same, s.so_far, add-one j, filter_range (comes_closer d c) j, e)
-                (sym (append-nil (filter (comes_closer d c) (range j))));
+            so_far = rw (none, add-zero, same, s.so_far, add-one j, filter_range f j, e)
+                (sym (append-nil (filter f (range j))));
           },
         )
+
+-- ---- The same from a number on
+
+-- those of so many numbers from m on that pass f
+abbrev pub onward : (ℕ → Bool) → ℕ → ℕ → List ℕ
+onward f m zero = []
+onward f m (suc left) = cond (f m) (m ∷ onward f (suc m) left) (onward f (suc m) left)
+
+pub all_onward : (f : ℕ → Bool) (n : ℕ) → filter f (range n) ≡ onward f 0 n
+all_onward f n = go n 0 (λ k. k) (λ k. omega arith)
+  where
+    go : (left m : ℕ) (g : ℕ → ℕ) → ((k : ℕ) → g k ≡ m + k) → filter f (tabulate left g) ≡ onward f m left
+    go zero m g is = refl
+    go (suc left) m g is =
+        let here : g 0 ≡ m = omega (arith, is 0) in
+        rw (here, go left (suc m) (λ k. g (suc k)) (λ k. omega (arith, is (suc k)))) refl
 
 -- ---- What stands where
 
@@ -167,8 +182,7 @@ module _ (f : ℕ → Bool) (row from p n : ℕ) (d : List ℕ) (room : row + n 
 
   passes : {j : ℕ} → j < n → f j ≡ true → T (here (row + j))
   passes {j} h t =
-      let in_range : j ∈ range n = rw (tabulate_at n (λ k. k) j 0 h) at (element (range n) j 0 (omega (arith, tabulate_length n (λ k. k)))) in
-      has_any (λ l. eqb (row + j) (row + l)) (has_filter f in_range (is_T t)) (eqb_refl (row + j))
+      has_any (λ l. eqb (row + j) (row + l)) (has_filter f (range_in n h) (is_T t)) (eqb_refl (row + j))
 
   outside : (k : ℕ) → ((j : ℕ) → j < n → k ≡ row + j → ⊥) → cond (here k) (lowered row from p d (k - row)) (at d k) ≡ at d k
   outside k none = rw (no_place nodes row k (λ j m. none j (below m))) refl

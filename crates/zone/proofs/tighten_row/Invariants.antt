@@ -1,8 +1,7 @@
--- `zone::tighten_row` meets its contract: one node after the other. Assumes nothing.
-use mathlib.Core.Path.{◌≡◌}
-use lib.ListN.{take}
-use Rattle.zone.specs.Passes.{lowered_at}
+-- `zone::tighten_row` meets its contract: a pass over the row, which leaves the other row as it was. Assumes nothing.
+use Rattle.base.proofs.Arrays.{Pass}
+use Rattle.zone.specs.Passes.{lowered}
 use Rattle.zone.proofs.tighten_row.Given as goal
 
 abbrev pub invariant-loop-j : goal.invariant-loop-j
-invariant-loop-j l = l.d ≡ lowered_at (take l.j-index l.nodes) l.row l.from l.p l.initial.d
+invariant-loop-j l = Pass (lowered l.row l.from l.p l.initial.d) l.row l.n l.j l.initial.d l.d
