@@ -10,7 +10,7 @@ ghost use Rattle.job.specs.Meaning.{expression_record, record_of};
 ghost use Rattle.layout.specs.declared.Command.TheVariants.{NextColumn, TableUsed, OutputColumn, NumberCompared, ColumnCompared};
 ghost use Rattle.layout.specs.Commands.{command_of, operands, in_condition, ending, before, add_column};
 ghost use Rattle.layout.specs.Reading.{starts, current, follows, has_room, has_operands, in_ranges, above_last};
-ghost use Rattle.commands.specs.Reached.{started};
+ghost use Rattle.commands.specs.Reached.{started, state_of, Held};
 ghost use Rattle.commands.specs.Uses.{part_more, grown, judge, judged_at, taken_at, refused_at, stepped_of, PartFits, Fits, Ready};
 
 use job::{Column, Comparison, Expression, Job};
@@ -178,6 +178,20 @@ impl<'a> Progress<'a> {
             last: 0,
             in_query: false,
             job: Job::empty(),
+        }
+    }
+
+    // What a reader has read that keeps it in parts.
+    pub fn of_parts(bytes: &'a [u8], at: usize, last: u8, in_query: bool, job: Job) -> Self
+        requires { Held job (state_of last in_query job) }
+        ensures { result ≡ record { bytes = bytes.now; at = at; state = state_of last in_query job } }
+    {
+        Self {
+            bytes,
+            at,
+            last,
+            in_query,
+            job,
         }
     }
 

@@ -73,16 +73,29 @@ impl From<Comparison> for OverNodes {
     ghost from_gives = { λ k n. n ≡ over_nodes (comparison_of k) };
 
     fn from(k: Comparison) -> Self {
-        Self {
-            op: Op::at(k.op),
-            left: usize::from(k.left) + 1,
-            right: usize::from(k.right),
-            added: added_to(k.right, k.number),
-        }
+        Self::new(
+            Op::at(k.op),
+            usize::from(k.left) + 1,
+            usize::from(k.right),
+            added_to(k.right, k.number),
+        )
     }
 }
 
 impl OverNodes {
+    // Of any two nodes, and anything that may be added.
+    pub fn new(op: Op, left: usize, right: usize, added: u64) -> Self
+        requires { (0 < added) × (added < 2 * level) }
+        ensures { result ≡ record { op = op; left = left; right = right; added = added } }
+    {
+        Self {
+            op,
+            left,
+            right,
+            added,
+        }
+    }
+
     // The constraints that hold where it does.
     pub fn constraints(&self) -> Constraints
         ensures { result ≡ between self.now.op self.now.left self.now.right self.now.added }
