@@ -1,11 +1,12 @@
 -- A loop over the clauses of a condition, which are the slice s: `left` says that what is left of them decides. Assumes nothing.
-use mathlib.Core.Path.{◌≡◌}
+use mathlib.Core.Path.{◌≡◌, refl}
 use mathlib.Core.Bool.{Bool, true, false}
-use mathlib.Core.List.{List, []}
+use mathlib.Core.List.{List, [], ◌∷◌}
 use mathlib.Core.Option.{Option, none, some}
 use Prim.Native.Nat.{ℕ, ◌+◌, ◌<◌, ◌≤◌}
+use native.Mathlib.Omega.{arith}
 use lib.ListN.{length, take, drop}
-use Rattle.base.specs.Options.{first_of}
+use Rattle.base.specs.Options.{and_then, first_of}
 use Rattle.base.proofs.Options.{then_none, then_some}
 use Rattle.base.proofs.Turns.{first_none, first_more, first_found}
 use Rattle.model.specs.Tables as model
@@ -13,7 +14,8 @@ use Rattle.job.specs.declared.Clause.{Clause}
 use Rattle.job.specs.declared.Condition.{Condition}
 use Rattle.job.specs.Meaning.{clause_of, condition_of}
 use Rattle.zone.specs.Zone.{Zone}
-use Rattle.conditions.specs.Meeting.{by_clause}
+use Rattle.solver.specs.Solver.{imposed_all}
+use Rattle.conditions.specs.Meeting.{by_clause, pairs_of}
 use Rattle.conditions.proofs.Clauses.{item, items_length, item_more, item_of}
 use Rattle.conditions.proofs.Meeting.{Laid, laid_none, laid_found}
 
@@ -40,3 +42,19 @@ module _ (k : Condition) {s : List Clause} (is : s ≡ take k.size k.clauses) wh
 
     pub turn_with : b ≡ true → {w : Zone} → f y ≡ some w → o ≡ some w
     turn_with some_row e = this_clause _ q left h (then_some f (laid_found z _ laid some_row) e)
+
+-- nothing is found by any clause where f gives nothing
+gives_none : (f : Zone → Option Zone) → ((y : Zone) → f y ≡ none) → (z : Zone) (a : model.Condition) → by_clause z a f ≡ none
+gives_none f nothing z [] = refl
+gives_none f nothing z (c ∷ a) = rw (go (imposed_all z c), gives_none f nothing z a)
+  where
+    go : (o : Option Zone) → and_then o f ≡ none
+    go none = refl
+    go (some y) = nothing y
+
+-- so nothing is found in the rows that meet two conditions, where the second one has no clause
+pub no_second : (k : Condition) {s : List Clause} (is : s ≡ take k.size k.clauses) → length s ≡ 0
+    → (z : Zone) (a : model.Condition) (f : Zone → Option Zone) → pairs_of z a (condition_of k) f ≡ none
+unfolding pairs_of
+no_second k is h z a f =
+    gives_none (λ y. by_clause y (condition_of k) f) (λ y. turns_end k is _ 0 refl (omega (arith, h))) z a

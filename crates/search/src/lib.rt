@@ -162,6 +162,10 @@ pub fn outside<const N: usize>(
     requires { SearchesOutside z.now a.now b.now k.now }
     ensures { Ends (outside z.now (condition_of a.now) (condition_of b.now) k.now.clauses (choices_in k.now)) result out.new }
 {
+    // no row meets a condition without clauses, so that nothing need be laid
+    if b.clauses().is_empty() {
+        return false;
+    }
     let mut found = false;
     'first: for c in a.clauses() {
         if conditions::lay_clause(z, c, &mut on_way.first) {

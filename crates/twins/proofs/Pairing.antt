@@ -100,7 +100,12 @@ module _ {z : Zone} {k l : Condition} {w : ℕ} {twin : List ℕ} (u : Marks z k
       clauses_none cl same (column_differs twin c) (λ x clx long. rw own (own_same clx long (omega (arith, u.paired.first_in))))
       (condition_of l) u.searches.second.fit r
 
-  -- so no more are marked from clause r of the second condition on, once clause q of the first was laid
+  -- so no more are marked
+  pub marks_whole : marks ≡ marked_by z (condition_of k) w (pair_differs l twin) marks
+  marks_whole = sym (settled (λ c. is_some (by_clause z (condition_of k) (pair_differs l twin c))) (λ c less own.
+      ap is_some (clauses_none closed (nodes_of closed) (pair_differs l twin c) (own_none less own 0) (condition_of k) u.searches.first.fit 0)))
+
+  -- nor from clause r of the second condition on, once clause q of the first was laid
   pub marks_settled : {s : List Clause} (is : s ≡ take k.size k.clauses) {q : ℕ} (h : q < length s)
       {b : Bool} {e : Zone} (laid : Laid z (clause_of (item s q)) b e) → b ≡ true → (old : List Bool) → w ≤ length old → (r : ℕ)
       → marked_by e (drop r (condition_of l)) w (column_differs twin) marks ≡ marked_by e (condition_of l) w (column_differs twin) old

@@ -66,7 +66,10 @@ pub fn first_row(row: [i32; COLUMNS], n: usize) -> [i32; Job::COLUMNS]
     ensures { result ≡ padded 16 (pos 0) (take n row) }
 {
     let mut first = [0i32; Job::COLUMNS];
-    first[..n].copy_from_slice(&row[..n]);
+    // no copy of a slice, as in `copy` of zone
+    for c in 0..n {
+        first[c] = row[c];
+    }
     first
 }
 
@@ -183,7 +186,7 @@ impl TwinRows {
     {
         // a column doesn't differ from itself, since a zone is closed, as `nodes` tells
         let _ = z.nodes();
-        if self.all_shared(cs) {
+        if self.all_shared(cs) || l.clauses().is_empty() {
             return false;
         }
         for c in k.clauses() {
@@ -233,14 +236,17 @@ impl TwinRows {
     {
         // a column doesn't differ from itself, since a zone is closed, as `nodes` tells
         let _ = z.nodes();
+        if self.all_marked(&*marks) {
+            return;
+        }
         for c in k.clauses() {
             if conditions::lay_clause(z, c, first) {
                 for e in l.clauses() {
-                    if self.all_marked(&*marks) {
-                        return;
-                    }
                     if conditions::lay_clause(&*first, e, pair) {
                         self.mark(&*pair, marks);
+                        if self.all_marked(&*marks) {
+                            return;
+                        }
                     }
                 }
             }

@@ -5,10 +5,14 @@ use Rattle.base.proofs.Options.{none_of}
 use Rattle.conditions.specs.Meeting.{pairs_of}
 use Rattle.conditions.proofs.Clauses.{item_fits}
 use Rattle.conditions.proofs.Meeting.{ends_none, within, laid_length}
-use Rattle.conditions.proofs.Turns.{turns_end, turn_without, turn_passed, turn_with}
+use Rattle.conditions.proofs.Turns.{no_second, turns_end, turn_without, turn_passed, turn_with}
 use Rattle.search.specs.Search.{outside}
 use Rattle.search.proofs.outside.Goals as goal
 use Rattle.search.proofs.outside.Goals.{else-lay_clause, then-lay_clause+else-second-test, else-lay_clause-2, then-lay_clause-2+else-broken}
+
+pub returns-then-is_empty : goal.returns-then-is_empty
+unfolding outside
+returns-then-is_empty g c = ends_none _ (no_second _ c.clauses.ensures (search rules) _ _ _)
 
 pub first-init : goal.first-init
 unfolding pairs_of

@@ -5,15 +5,20 @@ use Rattle.base.proofs.Options.{none_of}
 use Rattle.conditions.specs.Meeting.{pairs_of}
 use Rattle.conditions.proofs.Clauses.{item_fits}
 use Rattle.conditions.proofs.Meeting.{within, ends_none, laid_length}
-use Rattle.conditions.proofs.Turns.{turns_end, turn_without, turn_passed, turn_with}
+use Rattle.conditions.proofs.Turns.{no_second, turns_end, turn_without, turn_passed, turn_with}
 use Rattle.twins.proofs.Differing.{none_shared}
 use Rattle.twins.proofs.TwinRows.differ.Goals as goal
+use Rattle.twins.proofs.TwinRows.differ.Goals.{then-all_shared-via-then-all_shared, then-all_shared-via-else-all_shared+then-is_empty}
 use Rattle.twins.proofs.TwinRows.differ.Goals.{else-lay_clause, then-lay_clause+else-loop-e-test}
 use Rattle.twins.proofs.TwinRows.differ.Goals.{else-lay_clause-2-via-then-lay_clause-2+else-separate, else-lay_clause-2-via-else-lay_clause-2}
 
 pub returns-then-all_shared : goal.returns-then-all_shared
 returns-then-all_shared g c =
-    ends_none _ (none_shared c.requires c.nodes.ensures.closed c.all_shared.ensures c.if-all_shared.true)
+    elim c.then-all_shared.branch [
+      | then-all_shared-via-then-all_shared w ↦
+          ends_none _ (none_shared c.requires c.nodes.ensures.closed c.all_shared.ensures w.if-all_shared.true)
+      | then-all_shared-via-else-all_shared+then-is_empty w ↦ ends_none _ (no_second _ w.clauses.ensures (search rules) _ _ _)
+    ]
 
 pub loop-c-init : goal.loop-c-init
 unfolding pairs_of

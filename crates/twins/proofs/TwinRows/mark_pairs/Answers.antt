@@ -1,14 +1,15 @@
 use native.Mathlib.Omega.{arith}
 use borrow.Author.Rules.{rules}
 use mathlib.Core.Path.{refl, sym, ap, ◌∙◌}
+use Prim.Native.Nat.{◌+◌}
 use lib.ListN.{length}
 use Rattle.conditions.specs.Meeting.{pairs_of}
 use Rattle.conditions.proofs.Clauses.{item_fits}
 use Rattle.conditions.proofs.Meeting.{laid_length}
 use Rattle.twins.proofs.Marking.{marked_differ}
-use Rattle.twins.proofs.Pairing.{marks_end, marks_without, marks_with, marks_settled}
+use Rattle.twins.proofs.Pairing.{marks_end, marks_without, marks_with, marks_whole, marks_settled}
 use Rattle.twins.proofs.TwinRows.mark_pairs.Goals as goal
-use Rattle.twins.proofs.TwinRows.mark_pairs.Goals.{then-lay_clause-2, else-lay_clause-2, then-lay_clause+else-loop-e-test, else-lay_clause}
+use Rattle.twins.proofs.TwinRows.mark_pairs.Goals.{then-lay_clause-2+else-all_marked-2, else-lay_clause-2, then-lay_clause+else-loop-e-test, else-lay_clause}
 
 pub loop-c-init : goal.loop-c-init
 unfolding pairs_of
@@ -27,15 +28,22 @@ mark-requires g c = (
 )
 
 pub returns-then-all_marked : goal.returns-then-all_marked
-returns-then-all_marked g c =
-    marks_settled c.requires c.nodes.ensures.closed _ c.loop-e.invariant.0 (sym c.all_marked.ensures ∙ c.if-all_marked.true) c.clauses-c-items.ensures
-    c.loop-c-test.true c.lay_clause.ensures c.if-lay_clause.true c.loop-c.marks (omega (arith, c.loop-c.invariant.0)) c.loop-e.e-index
-    c.loop-e.invariant.1 ∙ c.loop-c.invariant.1
+unfolding pairs_of
+returns-then-all_marked g c = marks_whole c.requires c.nodes.ensures.closed _ refl (sym c.all_marked.ensures ∙ c.if-all_marked.true)
+
+pub returns-then-all_marked-2 : goal.returns-then-all_marked-2
+returns-then-all_marked-2 g c =
+    marks_settled c.requires c.nodes.ensures.closed _ (c.mark.auto.marks ∙ c.loop-e.invariant.0)
+    (sym c.all_marked-then-lay_clause-2.ensures ∙ c.if-all_marked-2.true) c.clauses-c-items.ensures
+    c.loop-c-test.true c.lay_clause.ensures c.if-lay_clause.true c.loop-c.marks (omega (arith, c.loop-c.invariant.0)) (c.loop-e.e-index + 1)
+    (marks_with _ c.clauses-e-items.ensures _ _ _ c.loop-e-test.true c.lay_clause-in-loop-e.ensures c.loop-e.marks c.if-lay_clause-2.true
+    (omega (arith, c.loop-e.invariant.0)) ((rw c.loop-e.invariant.0 at c.mark.ensures) ∙ marked_differ _ _ _ _)
+    ∙ c.loop-e.invariant.1) ∙ c.loop-c.invariant.1
 
 pub loop-e-preserved : goal.loop-e-preserved
 loop-e-preserved g c =
     elim c.if-lay_clause-2.branch [
-      | then-lay_clause-2 w ↦ (
+      | then-lay_clause-2+else-all_marked-2 w ↦ (
         ap length w.marks-is ∙ w.mark.auto.marks ∙ c.loop-e.invariant.0,
         marks_with _ c.clauses-e-items.ensures _ _ _ c.loop-e-test.true c.lay_clause-in-loop-e.ensures c.loop-e.marks w.if-lay_clause-2.true
             (omega (arith, c.loop-e.invariant.0))
